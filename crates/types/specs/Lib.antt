@@ -1,1 +1,2 @@
 pub mod Ty
+pub mod Record
