@@ -1,0 +1,1 @@
+// The form of formulas and environments.
