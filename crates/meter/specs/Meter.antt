@@ -422,6 +422,41 @@ module _ {E A : Type 0} {S : E → Type 0} {D : A → Type 0} {m : M E A} (x : E
   pub exact-done : (b : ℕ) (a : A) (r : ℕ) → m b ≡ done a r → D a
   exact-done b a r e = subst (λ (o : Out E A). Ends S D o) e (exact-ends b)
 
+-- a refusal's least budget, through the combinators
+pub halts-fail : {E A : Type 0} (w : Why) (e : E) → Halts {A = A} (fail w e) w e 0
+unfolding fail
+halts-fail w e = record { from = λ r. refl; short = λ b l. absurd (omega arith) }
+
+pub halts-eq : {E A : Type 0} {m m′ : M E A} {w : Why} {e : E} {c : ℕ} → m ≡ m′ → Halts m′ w e c → Halts m w e c
+halts-eq q x = rw q x
+
+module _ {E A : Type 0} (f : E) {m : M E A} {w : Why} {e : E} {c : ℕ} (x : Halts m w e c) where
+  halts-tick-short : (b : ℕ) → b < suc c → (g : E) × (tick f m b ≡ spent g)
+  unfolding tick
+  halts-tick-short zero l = (f, refl)
+  halts-tick-short (suc b) l = x .short b (omega arith)
+
+  pub halts-tick : Halts (tick f m) w e (suc c)
+  unfolding tick
+  halts-tick = record { from = λ r. (let q : suc c + r ≡ suc (c + r) = omega arith in ap (tick f m) q ∙ x .from r); short = halts-tick-short }
+
+module _ {E A B : Type 0} {S : E → Type 0} {D : A → Type 0} {m : M E A} (k : A → M E B) {w : Why} {e : E} {c : ℕ} (x : Exact S D m) (y : Halts (k (x .answer)) w e c) where
+  halts-bind-short : (b : ℕ) → b < x .cost + c → Dec (b < x .cost) → (f : E) × (on (m b) k ≡ spent f)
+  unfolding on
+  halts-bind-short b l (yes q) = let z = x .short b q in (z .0, ap (λ o. on o k) (z .1))
+  halts-bind-short b l (no q) =
+      let j : ℕ = b - x .cost in
+      let z = y .short j (omega arith) in
+      let p : b ≡ x .cost + j = omega arith in
+      (z .0, ap (λ i. on (m i) k) p ∙ ap (λ o. on o k) (x .enough j) ∙ z .1)
+
+  pub halts-bind : Halts (m >>= k) w e (x .cost + c)
+  unfolding _>>=_ on
+  halts-bind = record {
+    from = λ r. (let p : (x .cost + c) + r ≡ x .cost + (c + r) = omega arith in ap (λ i. on (m i) k) p ∙ ap (λ o. on o k) (x .enough (c + r)) ∙ y .from r);
+    short = λ b l. halts-bind-short b l (decLt b (x .cost));
+  }
+
 -- a computation whose state nobody looks at after a refusal
 unfoldable pub forgetE : {E A : Type 0} → Out E A → Out (Unit {0}) A
 forgetE (spent e) = spent tt

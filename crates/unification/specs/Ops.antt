@@ -7,8 +7,9 @@ use mathlib.Core.List.{List, [], _∷_, _++_}
 use native.Mathlib.Omega.{arith}
 use lib.Dec.{ltb}
 use lib.ListN.{length, length-append}
-use borrow.Author.Tests.{lt-ltb}
-use Rattle.meter.specs.Meter.{Out, spent, halt, done, Why, broken, full, M, ret, fail, tick, _>>=_, forget, Metered, metered-ret, metered-fail, metered-tick, metered-bind, metered-forget, Exact, exact-ret, exact-tick, exact-eq, exact-map, exact-bind, exact-forget, bind-assoc, bind-ret, bind-fail, tick-bind}
+use native.Mathlib.Decide.{decLt}
+use borrow.Author.Tests.{lt-ltb, le-ltb}
+use Rattle.meter.specs.Meter.{Out, spent, halt, done, Why, broken, full, M, ret, fail, tick, _>>=_, forget, Metered, metered-ret, metered-fail, metered-tick, metered-bind, metered-forget, Exact, exact-ret, exact-tick, exact-eq, exact-map, exact-bind, exact-forget, bind-assoc, bind-ret, bind-fail, tick-bind, Halts, halts-fail, halts-eq, halts-tick, halts-bind}
 use Rattle.unification.specs.Arena.{Node, decode, Words, U, nodeAt, choose, Verdict, unified, mismatch, circular, Answer, unify}
 use Rattle.unification.specs.Good.{Assignment, Says, Admits, Good, Inside, good-push, push-keeps, push-takes, pushAt, length-push, node-push-new, node-push-old}
 use Rattle.unification.specs.Steps.{unify-metered, choose-metered}
@@ -239,3 +240,30 @@ module _ (cap : ℕ) where
       exact-bind (exact-forget (unify-exact (s .count) (s .words) (let q = r .roomy in omega arith) (r .good) a b (w .0) (w .1)))
       (λ o g. exact-map (λ _ u. u) (λ s′ h. learnt-ran s a b p os o g s′ h) (exec-exact os (learn s p o) (learnt-ready s a b p os o r (g .kept)) (w .2) l))
   exec-exact (list q p ∷ os) s r w l = exact-map (λ _ u. u) (λ s′ h. complain-ran s q p os s′ h) (exec-exact os (complain s q p) (record { roomy = r .roomy; good = r .good }) w l)
+
+  -- the capacity ends inside the list: it halts full from some budget on, and below that it is spent; nothing else can happen
+  pub exec-full : (os : List Op) (s : Bench) → Ready cap s → Sound (s .count) os → s .count ≤ cap → cap < s .count + nodes os → (c : ℕ) × Halts (exec cap os s) full tt c
+  unfolding exec choose grow learn complain
+  exec-full [] s r w l f = absurd (omega arith)
+  exec-full (pay ∷ os) s r w l f = let z = exec-full os s r w l f in (suc (z .0), halts-tick tt (z .1))
+  exec-full (make k a b ∷ os) s r w l f = at-make (decLt (s .count) cap) (λ q. exec-full os (grow s k a b) (grown-ready s k a b os r q (w .0)) (w .1) (omega arith) (omega arith))
+    where
+      at-make : Dec (s .count < cap) → (s .count < cap → (c : ℕ) × Halts (exec cap os (grow s k a b)) full tt c) → (c : ℕ) × Halts (choose (ltb (s .count) cap) (exec cap os (grow s k a b)) (fail full tt)) full tt c
+      at-make (yes q) rec = let z = rec q in (z .0, halts-eq (ap (λ (c : Bool). choose c (exec cap os (grow s k a b)) (fail full tt)) (lt-ltb (s .count) cap q)) (z .1))
+      at-make (no q) rec = (0, halts-eq (ap (λ (c : Bool). choose c (exec cap os (grow s k a b)) (fail full tt)) (le-ltb (s .count) cap (omega arith))) (halts-fail full tt))
+  exec-full (compare a b p ∷ os) s r w l f =
+      let x = exact-forget (unify-exact (s .count) (s .words) (let q = r .roomy in omega arith) (r .good) a b (w .0) (w .1)) in
+      let z = exec-full os (learn s p (x .answer)) (learnt-ready s a b p os (x .answer) r (x .holds .kept)) (w .2) l f in
+      (x .cost + z .0, halts-bind (λ o. exec cap os (learn s p o)) x (z .1))
+  exec-full (list q p ∷ os) s r w l f = exec-full os (complain s q p) (record { roomy = r .roomy; good = r .good }) w l f
+
+-- the same bench and a larger capacity: a list whose nodes fit runs as before
+pub exec-wider : (cap cap′ : ℕ) (os : List Op) (s : Bench) → s .count + nodes os ≤ cap → cap ≤ cap′ → exec cap os s ≡ exec cap′ os s
+unfolding exec grow learn complain
+exec-wider cap cap′ [] s l h = refl
+exec-wider cap cap′ (pay ∷ os) s l h = ap (tick tt) (exec-wider cap cap′ os s l h)
+exec-wider cap cap′ (make k a b ∷ os) s l h =
+    ap₂ (λ (c : Bool) (m : M U Bench). choose c m (fail full tt)) (lt-ltb (s .count) cap (omega arith) ∙ sym (lt-ltb (s .count) cap′ (omega arith))) (exec-wider cap cap′ os (grow s k a b) (omega arith) h)
+exec-wider cap cap′ (compare a b p ∷ os) s l h =
+    ap (λ (k : Answer → M U Bench). forget (unify (s .count) (s .words, a, b)) >>= k) (fun-ext λ o. exec-wider cap cap′ os (learn s p o) l h)
+exec-wider cap cap′ (list q p ∷ os) s l h = exec-wider cap cap′ os (complain s q p) l h
