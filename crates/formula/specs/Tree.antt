@@ -10,40 +10,40 @@ pub data Spelling : Type 0 where
   no-type : Spelling
 
 pub data Decl : Type 0 where
-  plain : ℕ → Decl                                      -- 10
-  typed : ℕ → Ty → Decl                                 -- 11
-  annotated : ℕ → Spelling → Decl                       -- 12
+  plain : ℕ → Decl  -- 10
+  typed : ℕ → Ty → Decl  -- 11
+  annotated : ℕ → Spelling → Decl  -- 12
 
 mutual
   pub data Expr : Type 0 where
-    free : ℕ → ℕ → Expr                                 -- 01: name
-    bound : ℕ → ℕ → Expr                                -- 02: index
-    literal : ℕ → Expr                                  -- 03
-    atomic : ℕ → ℕ → Expr                               -- 04: operator
-    extension : ℕ → Exprs → Expr                        -- 05
-    truth : ℕ → Pred → Expr                             -- 06
-    binary : ℕ → ℕ → Expr → Expr → Expr                 -- 07: operator
-    associative : ℕ → ℕ → Exprs → Expr                  -- 08: operator
-    unary : ℕ → ℕ → Expr → Expr                         -- 09: operator
-    quantified : ℕ → ℕ → List Decl → Pred → Expr → Expr -- 0A: operator
-    ascribed : ℕ → Expr → ℕ → Spelling → Expr           -- 0B: place and spelling of the type
-    explicit : ℕ → Ty → Expr → Expr                     -- 0C
+    free : ℕ → ℕ → Expr  -- 01: name
+    bound : ℕ → ℕ → Expr  -- 02: index
+    literal : ℕ → Expr  -- 03
+    atomic : ℕ → ℕ → Expr  -- 04: operator
+    extension : ℕ → Exprs → Expr  -- 05
+    truth : ℕ → Pred → Expr  -- 06
+    binary : ℕ → ℕ → Expr → Expr → Expr  -- 07: operator
+    associative : ℕ → ℕ → Exprs → Expr  -- 08: operator
+    unary : ℕ → ℕ → Expr → Expr  -- 09: operator
+    quantified : ℕ → ℕ → List Decl → Pred → Expr → Expr  -- 0A: operator
+    ascribed : ℕ → Expr → ℕ → Spelling → Expr  -- 0B: place and spelling of the type
+    explicit : ℕ → Ty → Expr → Expr  -- 0C
 
   pub data Exprs : Type 0 where
     none : Exprs
     more : Expr → Exprs → Exprs
 
   pub data Pred : Type 0 where
-    constant : ℕ → Pred                                 -- 20
-    variable : ℕ → Pred                                 -- 21
-    relational : ℕ → ℕ → Expr → Expr → Pred             -- 22: operator
-    connective : ℕ → Pred → Pred → Pred                 -- 23
-    junction : ℕ → Preds → Pred                         -- 24
-    negation : ℕ → Pred → Pred                          -- 25
-    quantification : ℕ → List Decl → Pred → Pred        -- 26
-    simple : ℕ → Expr → Pred                            -- 27
-    multiple : ℕ → Exprs → Pred                         -- 28
-    application : ℕ → Exprs → Pred                      -- 29
+    constant : ℕ → Pred  -- 20
+    variable : ℕ → Pred  -- 21
+    relational : ℕ → ℕ → Expr → Expr → Pred  -- 22: operator
+    connective : ℕ → Pred → Pred → Pred  -- 23
+    junction : ℕ → Preds → Pred  -- 24
+    negation : ℕ → Pred → Pred  -- 25
+    quantification : ℕ → List Decl → Pred → Pred  -- 26
+    simple : ℕ → Expr → Pred  -- 27
+    multiple : ℕ → Exprs → Pred  -- 28
+    application : ℕ → Exprs → Pred  -- 29
 
   pub data Preds : Type 0 where
     end : Preds
@@ -57,9 +57,9 @@ pub record Target : Type 0 where
 pub data Formula : Type 0 where
   expression : Expr → Formula
   predicate : Pred → Formula
-  becomes : ℕ → List (Target × Expr) → Formula                     -- 30
-  becomes-in : ℕ → Target → List Target → Expr → Formula           -- 31
-  becomes-such : ℕ → List Target → List Decl → Pred → Formula      -- 32
+  becomes : ℕ → List (Target × Expr) → Formula  -- 30
+  becomes-in : ℕ → Target → List Target → Expr → Formula  -- 31
+  becomes-such : ℕ → List Target → List Decl → Pred → Formula  -- 32
 
 -- where a comparison with an expression is placed: 0C is no expression of its own
 unfoldable pub place : Expr → ℕ
