@@ -1,0 +1,1 @@
+//! Stand-in: before-after predicates. No type check makes one.

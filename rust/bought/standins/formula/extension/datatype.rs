@@ -1,0 +1,1 @@
+//! Stand-in: datatypes as extensions. The byte forms have no extension.

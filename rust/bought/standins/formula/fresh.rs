@@ -1,0 +1,3 @@
+//! Stand-in: choosing names that a formula does not use. No type check chooses a name.
+
+pub struct FreshNameSolver;

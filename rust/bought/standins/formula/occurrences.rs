@@ -1,0 +1,1 @@
+//! Stand-in: searching a formula for occurrences. No type check searches.

@@ -1,0 +1,1 @@
+//! Stand-in: substitution. No type check substitutes in a formula.
