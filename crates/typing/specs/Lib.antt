@@ -1,0 +1,4 @@
+pub mod Equations
+pub mod Rules
+pub mod Typings
+pub mod Examples
