@@ -1,2 +1,4 @@
 pub mod Ty
 pub mod Record
+pub mod Spellings
+pub mod Code
