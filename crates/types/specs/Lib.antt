@@ -2,3 +2,4 @@ pub mod Ty
 pub mod Record
 pub mod Spellings
 pub mod Code
+pub mod Steps

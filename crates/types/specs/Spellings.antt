@@ -62,15 +62,19 @@ head-begins names p (k ∷ l) h = go (eqb k 0x40) refl
     on44 : (c : Bool) → eqb k 0x44 ≡ c → Begins names p (k ∷ l) (pick c (product (p + 1)) wrong)
     on44 true e = (refl, rw (eqb-true k 0x44 e))
     on44 false e = tt
+
     on43 : (c : Bool) → eqb k 0x43 ≡ c → Begins names p (k ∷ l) (pick c (power (p + 1)) (pick (eqb k 0x44) (product (p + 1)) wrong))
     on43 true e = (refl, rw (eqb-true k 0x43 e))
     on43 false e = on44 (eqb k 0x44) refl
+
     on42 : (c : Bool) → eqb k 0x42 ≡ c → Begins names p (k ∷ l) (pick c (givenOf names p l) (pick (eqb k 0x43) (power (p + 1)) (pick (eqb k 0x44) (product (p + 1)) wrong)))
     on42 true e = rw (eqb-true k 0x42 e) (two-begin names p l (rw (eqb-true k 0x42 e) at h))
     on42 false e = on43 (eqb k 0x43) refl
+
     on41 : (c : Bool) → eqb k 0x41 ≡ c → Begins names p (k ∷ l) (pick c (atomic int (p + 1)) (pick (eqb k 0x42) (givenOf names p l) (pick (eqb k 0x43) (power (p + 1)) (pick (eqb k 0x44) (product (p + 1)) wrong))))
     on41 true e = (int-below, refl, rw (eqb-true k 0x41 e))
     on41 false e = on42 (eqb k 0x42) refl
+
     go : (c : Bool) → eqb k 0x40 ≡ c → Begins names p (k ∷ l) (pick c (atomic bool (p + 1)) (pick (eqb k 0x41) (atomic int (p + 1)) (pick (eqb k 0x42) (givenOf names p l) (pick (eqb k 0x43) (power (p + 1)) (pick (eqb k 0x44) (product (p + 1)) wrong)))))
     go true e = (bool-below, refl, rw (eqb-true k 0x40 e))
     go false e = on41 (eqb k 0x41) refl
@@ -104,9 +108,12 @@ spelled-is-read names s (pow t) k (suc left) p rest h e =
 spelled-is-read names s (prod t u) k zero p rest h e = absurd (omega arith)
 spelled-is-read names s (prod t u) k (suc left) p rest h e =
     let e1 : drop (p + 1) s ≡ spell t ++ (spell u ++ rest) = past s p (0x44 ∷ []) ((spell t ++ spell u) ++ rest) e ∙ append-assoc (spell t) (spell u) rest in
-    rw (e, head-product names p ((spell t ++ spell u) ++ rest),
-        spelled-is-read names s t (k .0) left (p + 1) (spell u ++ rest) (omega arith) e1,
-        spelled-is-read names s u (k .1) left (p + 1 + length (spell t)) rest (omega arith) (past s (p + 1) (spell t) (spell u ++ rest) e1))
+    rw (
+      e,
+      head-product names p ((spell t ++ spell u) ++ rest),
+      spelled-is-read names s t (k .0) left (p + 1) (spell u ++ rest) (omega arith) e1,
+      spelled-is-read names s u (k .1) left (p + 1 + length (spell t)) rest (omega arith) (past s (p + 1) (spell t) (spell u ++ rest) e1),
+    )
     (ap (got (prod t u)) (let z : p + 1 + length (spell t) + length (spell u) ≡ p + suc (length (spell t ++ spell u)) = omega (arith, length-append (spell t) (spell u)) in z))
 
 -- ---- what is read is spelled
@@ -125,35 +132,35 @@ module _ (left names : ℕ) (s : List ℕ) (p : ℕ) where
   stands-atom : (a : Atom) (e : ℕ) → Begins names p (drop p s) (atomic a e) → Stands (suc left) names s p (base a) e
   unfolding Begins depth Below spell
   stands-atom a e b =
-      record
-        { shallow = omega arith
-        ; below = b .0
-        ; ends = b .1
-        ; bytes = b .2 ∙ ap (λ (l : List ℕ). spellAtom a ++ l) (drop-drop (length (spellAtom a)) p s ∙ ap (λ (n : ℕ). drop n s) (sym (b .1))) }
+      record {
+        shallow = omega arith;
+        below = b .0;
+        ends = b .1;
+        bytes = b .2 ∙ ap (λ (l : List ℕ). spellAtom a ++ l) (drop-drop (length (spellAtom a)) p s ∙ ap (λ (n : ℕ). drop n s) (sym (b .1)));
+      }
 
   stands-power : (q : ℕ) (t : Ty) (e : ℕ) → Begins names p (drop p s) (power q) → Stands left names s q t e → Stands (suc left) names s p (pow t) e
   unfolding Begins depth Below spell
   stands-power q t e b w =
       let here : drop 1 (drop p s) ≡ drop q s = drop-drop 1 p s ∙ ap (λ (n : ℕ). drop n s) (sym (b .0)) in
-      record
-        { shallow = let h = w .shallow in omega arith
-        ; below = w .below
-        ; ends = let h = w .ends in let g = b .0 in omega arith
-        ; bytes = b .1 ∙ ap (λ (l : List ℕ). 0x43 ∷ l) (here ∙ w .bytes) }
+      record {
+        shallow = let h = w .shallow in omega arith;
+        below = w .below;
+        ends = let h = w .ends in let g = b .0 in omega arith;
+        bytes = b .1 ∙ ap (λ (l : List ℕ). 0x43 ∷ l) (here ∙ w .bytes);
+      }
 
   stands-product : (q : ℕ) (t u : Ty) (f e : ℕ) → Begins names p (drop p s) (product q) → Stands left names s q t f → Stands left names s f u e → Stands (suc left) names s p (prod t u) e
   unfolding Begins depth Below spell
   stands-product q t u f e b w v =
       let here : drop 1 (drop p s) ≡ drop q s = drop-drop 1 p s ∙ ap (λ (n : ℕ). drop n s) (sym (b .0)) in
       let both : drop q s ≡ (spell t ++ spell u) ++ drop e s = w .bytes ∙ ap (λ (l : List ℕ). spell t ++ l) (v .bytes) ∙ sym (append-assoc (spell t) (spell u) (drop e s)) in
-      record
-        { shallow = let h = w .shallow in let g = v .shallow in omega arith
-        ; below = (w .below, v .below)
-        ; ends = let h = w .ends in let i = v .ends in let g = b .0 in omega (arith, length-append (spell t) (spell u))
-        ; bytes = b .1 ∙ ap (λ (l : List ℕ). 0x44 ∷ l) (here ∙ both) }
-
-never : {left names : ℕ} {s : List ℕ} {p : ℕ} {t : Ty} {e : ℕ} (x : TypeAt) → x ≡ got t e → (q : ℕ) → x ≡ malformed q → Stands left names s p t e
-never x r q g = absurd (let z : _≡_ {A = ℕ} 0 1 = cc in omega arith)
+      record {
+        shallow = let h = w .shallow in let g = v .shallow in omega arith;
+        below = (w .below, v .below);
+        ends = let h = w .ends in let i = v .ends in let g = b .0 in omega (arith, length-append (spell t) (spell u));
+        bytes = b .1 ∙ ap (λ (l : List ℕ). 0x44 ∷ l) (here ∙ both);
+      }
 
 module _ (left names : ℕ) (s : List ℕ) (rec : (q : ℕ) (t : Ty) (e : ℕ) → typeAt left names s q ≡ got t e → Stands left names s q t e) (p : ℕ) (t : Ty) (e : ℕ) where
   read-power : (q : ℕ) → Begins names p (drop p s) (power q) → (x : TypeAt) → typeAt left names s q ≡ x → (andThen x λ t f. got (pow t) f) ≡ got t e → Stands (suc left) names s p t e
