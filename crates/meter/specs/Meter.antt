@@ -521,3 +521,26 @@ tick-bind-at e m k (suc b) = refl
 
 pub tick-bind : {E A B : Type 0} (e : E) (m : M E A) (k : A → M E B) → tick e m >>= k ≡ tick e (m >>= k)
 tick-bind e m k = fun-ext (tick-bind-at e m k)
+
+-- a reader's parts, read where the state e stands
+pub reading-ret : {E A : Type 0} (e : E) (a : A) → reading e (ret a) ≡ ret a
+unfolding reading atE ret
+reading-ret e a = refl
+
+reading-tick-at : {E A : Type 0} (e : E) (m : M (Unit {0}) A) (b : ℕ) → reading e (tick tt m) b ≡ tick e (reading e m) b
+unfolding reading atE tick
+reading-tick-at e m zero = refl
+reading-tick-at e m (suc b) = refl
+
+pub reading-tick : {E A : Type 0} (e : E) (m : M (Unit {0}) A) → reading e (tick tt m) ≡ tick e (reading e m)
+reading-tick e m = fun-ext (reading-tick-at e m)
+
+reading-on : {E A B : Type 0} (e : E) (o : Out (Unit {0}) A) (k : A → M (Unit {0}) B) → atE e (on o k) ≡ on (atE e o) (λ a. reading e (k a))
+unfolding reading atE on
+reading-on e (spent x) k = refl
+reading-on e (halt w x) k = refl
+reading-on e (done a r) k = refl
+
+pub reading-bind : {E A B : Type 0} (e : E) (m : M (Unit {0}) A) (k : A → M (Unit {0}) B) → reading e (m >>= k) ≡ reading e m >>= λ a. reading e (k a)
+unfolding reading _>>=_
+reading-bind e m k = fun-ext λ b. reading-on e (m b) k

@@ -9,3 +9,5 @@ pub mod Laws
 pub mod History
 pub mod Ops
 pub mod Code
+pub mod Tasks
+pub mod Make
