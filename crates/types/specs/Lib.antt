@@ -3,3 +3,4 @@ pub mod Record
 pub mod Spellings
 pub mod Code
 pub mod Steps
+pub mod Faults

@@ -27,7 +27,7 @@ pub bytes-at : (s : List ℕ) → ((i : ℕ) → getD s i 0 < 256) → Bytes s
 unfolding Bytes
 bytes-at s h = h
 
-bytes-drop : (s : List ℕ) → Bytes s → (p : ℕ) → Bytes (drop p s)
+pub bytes-drop : (s : List ℕ) → Bytes s → (p : ℕ) → Bytes (drop p s)
 unfolding Bytes
 bytes-drop s h p = λ i. rw (getD-drop p s i 0) (h (p + i))
 
