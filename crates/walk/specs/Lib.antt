@@ -1,0 +1,10 @@
+pub mod Writer
+pub mod Scripts
+pub mod Walk
+pub mod Tables
+pub mod Triple
+pub mod Pieces
+pub mod Theorem
+pub mod Whole
+pub mod Safe
+pub mod Cases
