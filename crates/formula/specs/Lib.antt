@@ -5,3 +5,4 @@ pub mod Limits
 pub mod Heads
 pub mod Reader
 pub mod Parse
+pub mod Steps

@@ -4,9 +4,12 @@ ghost use mathlib.Core.Path.{_≡_};
 ghost use mathlib.Core.Bool.{Bool, true, false};
 ghost use Prim.Native.Nat.{ℕ, _+_, _*_, _-_, _<_, _≤_};
 ghost use lib.ListN.{length, getD};
-ghost use Rattle.formula.specs.Heads.{byteAt, wordAt, nameAt, opAt, countAt, fewAt, exprBody, exprHead, predBody, predHead, declHead, targetAt};
+ghost use Rattle.formula.specs.Heads.{byteAt, wordAt, nameAt, opAt, countAt, fewAt, exprBody, exprHead, predBody, predHead, declBody, declHead, targetAt};
+ghost use Rattle.formula.specs.Reader.{ownOf, declareOf, closedOf, moved, typeIn, spellingIn, after};
+ghost use Rattle.formula.specs.Parse.{declAt, declsAt, exprAt, exprsAt, predAt, predsAt, targetIn, targetsAt, pairIn, pairsAt, becomesAt, formulaAt};
 use types::Name;
 use types::Place;
+use types::TypeEnd;
 
 // ---- the limits
 
@@ -101,4 +104,251 @@ pub enum Fault {
 pub enum Out {
     Next(St),
     Stop(Fault),
+}
+
+// ---- parts of a body
+
+fn wide(b: u8) -> u16
+    ensures { λ r. ⌜ r ≡ b ⌝ }
+{
+    b as u16
+}
+
+fn byte_at(s: &[u8], at: Place) -> Byte
+    requires { ⌜ length (now s) ≤ 16384 ⌝ }
+    ensures { λ r. ⌜ r ≡ byteAt (now (s .entry)) at ⌝ }
+{
+    let p = at.0;
+    let i = p as usize;
+    if i < s.len() {
+        return Byte::Of(s[i], Place(p + 1));
+    }
+    Byte::Missing
+}
+
+fn word_at(s: &[u8], at: Place) -> Word
+    requires { ⌜ length (now s) ≤ 16384 ⌝ }
+    ensures { λ r. ⌜ r ≡ wordAt (now (s .entry)) at ⌝ }
+{
+    match byte_at(s, at) {
+        Byte::Missing => Word::Missing,
+        Byte::Of(lo, p) => match byte_at(s, p) {
+            Byte::Missing => Word::Missing,
+            Byte::Of(hi, e) => Word::Of(wide(lo) + wide(hi) * 256, e),
+        },
+    }
+}
+
+// A name below the count.
+fn name_at(s: &[u8], names: u32, at: Place) -> Word
+    requires { ⌜ length (now s) ≤ 16384 ⌝ }
+    ensures { λ r. ⌜ r ≡ nameAt names (now (s .entry)) at ⌝ }
+{
+    match word_at(s, at) {
+        Word::Missing => Word::Missing,
+        Word::Of(n, e) => {
+            if (n as u32) < names {
+                return Word::Of(n, e);
+            }
+            Word::Missing
+        }
+    }
+}
+
+// An operator below a limit.
+fn op_at(s: &[u8], limit: u8, at: Place) -> Byte
+    requires { ⌜ length (now s) ≤ 16384 ⌝ }
+    ensures { λ r. ⌜ r ≡ opAt limit (now (s .entry)) at ⌝ }
+{
+    match byte_at(s, at) {
+        Byte::Missing => Byte::Missing,
+        Byte::Of(o, e) => {
+            if o < limit {
+                return Byte::Of(o, e);
+            }
+            Byte::Missing
+        }
+    }
+}
+
+// A count of two bytes, at least so many.
+fn count_at(s: &[u8], least: u16, at: Place) -> Word
+    requires { ⌜ length (now s) ≤ 16384 ⌝ }
+    ensures { λ r. ⌜ r ≡ countAt least (now (s .entry)) at ⌝ }
+{
+    match word_at(s, at) {
+        Word::Missing => Word::Missing,
+        Word::Of(n, e) => {
+            if least <= n {
+                return Word::Of(n, e);
+            }
+            Word::Missing
+        }
+    }
+}
+
+// A count of one byte, at least 1.
+fn few_at(s: &[u8], at: Place) -> Byte
+    requires { ⌜ length (now s) ≤ 16384 ⌝ }
+    ensures { λ r. ⌜ r ≡ fewAt (now (s .entry)) at ⌝ }
+{
+    match byte_at(s, at) {
+        Byte::Missing => Byte::Missing,
+        Byte::Of(n, e) => {
+            if 1 <= n {
+                return Byte::Of(n, e);
+            }
+            Byte::Missing
+        }
+    }
+}
+
+// ---- heads
+
+// An expression of kind k whose body stands at p; bare: where no 0C may stand.
+fn expr_body(s: &[u8], names: u32, bare: bool, k: u8, p: Place) -> ExprAt
+    requires { ⌜ length (now s) ≤ 16384 ⌝ }
+    ensures { λ r. ⌜ r ≡ exprBody names (now (s .entry)) bare k p ⌝ }
+{
+    match k {
+        0x01 => match name_at(s, names, p) {
+            Word::Missing => ExprAt::Wrong,
+            Word::Of(n, e) => ExprAt::Is(ExprHead::Free(Name(n as u32), e)),
+        },
+        0x02 => match word_at(s, p) {
+            Word::Missing => ExprAt::Wrong,
+            Word::Of(i, e) => ExprAt::Is(ExprHead::Bound(i, e)),
+        },
+        0x03 => ExprAt::Is(ExprHead::Literal(p)),
+        0x04 => match op_at(s, 12, p) {
+            Byte::Missing => ExprAt::Wrong,
+            Byte::Of(o, e) => ExprAt::Is(ExprHead::Atomic(o, e)),
+        },
+        0x05 => match count_at(s, 1, p) {
+            Word::Missing => ExprAt::Wrong,
+            Word::Of(n, e) => ExprAt::Is(ExprHead::Extension(n, e)),
+        },
+        0x06 => ExprAt::Is(ExprHead::Truth(p)),
+        0x07 => match op_at(s, 27, p) {
+            Byte::Missing => ExprAt::Wrong,
+            Byte::Of(o, e) => ExprAt::Is(ExprHead::Binary(o, e)),
+        },
+        0x08 => match op_at(s, 7, p) {
+            Byte::Missing => ExprAt::Wrong,
+            Byte::Of(o, q) => match count_at(s, 2, q) {
+                Word::Missing => ExprAt::Wrong,
+                Word::Of(n, e) => ExprAt::Is(ExprHead::Associative(o, n, e)),
+            },
+        },
+        0x09 => match op_at(s, 11, p) {
+            Byte::Missing => ExprAt::Wrong,
+            Byte::Of(o, e) => ExprAt::Is(ExprHead::Unary(o, e)),
+        },
+        0x0A => match op_at(s, 3, p) {
+            Byte::Missing => ExprAt::Wrong,
+            Byte::Of(o, q) => match few_at(s, q) {
+                Byte::Missing => ExprAt::Wrong,
+                Byte::Of(n, e) => ExprAt::Is(ExprHead::Quantified(o, n, e)),
+            },
+        },
+        0x0B => ExprAt::Is(ExprHead::Ascribed(p)),
+        0x0C => {
+            if bare {
+                return ExprAt::Wrong;
+            }
+            ExprAt::Is(ExprHead::Explicit(p))
+        }
+        _ => ExprAt::Wrong,
+    }
+}
+
+fn expr_head(s: &[u8], names: u32, bare: bool, at: Place) -> ExprAt
+    requires { ⌜ length (now s) ≤ 16384 ⌝ }
+    ensures { λ r. ⌜ r ≡ exprHead names (now (s .entry)) bare at ⌝ }
+{
+    match byte_at(s, at) {
+        Byte::Missing => ExprAt::Wrong,
+        Byte::Of(k, p) => expr_body(s, names, bare, k, p),
+    }
+}
+
+fn pred_body(s: &[u8], k: u8, p: Place) -> PredAt
+    requires { ⌜ length (now s) ≤ 16384 ⌝ }
+    ensures { λ r. ⌜ r ≡ predBody (now (s .entry)) k p ⌝ }
+{
+    match k {
+        0x20 => PredAt::Is(PredHead::Constant(p)),
+        0x21 => PredAt::Is(PredHead::Variable(p)),
+        0x22 => match op_at(s, 12, p) {
+            Byte::Missing => PredAt::Wrong,
+            Byte::Of(o, e) => PredAt::Is(PredHead::Relational(o, e)),
+        },
+        0x23 => PredAt::Is(PredHead::Connective(p)),
+        0x24 => match count_at(s, 2, p) {
+            Word::Missing => PredAt::Wrong,
+            Word::Of(n, e) => PredAt::Is(PredHead::Junction(n, e)),
+        },
+        0x25 => PredAt::Is(PredHead::Negation(p)),
+        0x26 => match few_at(s, p) {
+            Byte::Missing => PredAt::Wrong,
+            Byte::Of(n, e) => PredAt::Is(PredHead::Quantification(n, e)),
+        },
+        0x27 => PredAt::Is(PredHead::Simple(p)),
+        0x28 => match count_at(s, 1, p) {
+            Word::Missing => PredAt::Wrong,
+            Word::Of(n, e) => PredAt::Is(PredHead::Multiple(n, e)),
+        },
+        0x29 => match word_at(s, p) {
+            Word::Missing => PredAt::Wrong,
+            Word::Of(n, e) => PredAt::Is(PredHead::Application(n, e)),
+        },
+        _ => PredAt::Wrong,
+    }
+}
+
+fn pred_head(s: &[u8], at: Place) -> PredAt
+    requires { ⌜ length (now s) ≤ 16384 ⌝ }
+    ensures { λ r. ⌜ r ≡ predHead (now (s .entry)) at ⌝ }
+{
+    match byte_at(s, at) {
+        Byte::Missing => PredAt::Wrong,
+        Byte::Of(k, p) => pred_body(s, k, p),
+    }
+}
+
+fn decl_body(k: u8, p: Place) -> DeclAt
+    ensures { λ r. ⌜ r ≡ declBody k p ⌝ }
+{
+    match k {
+        0x10 => DeclAt::Is(DeclHead::Plain(p)),
+        0x11 => DeclAt::Is(DeclHead::Typed(p)),
+        0x12 => DeclAt::Is(DeclHead::Annotated(p)),
+        _ => DeclAt::Wrong,
+    }
+}
+
+fn decl_head(s: &[u8], at: Place) -> DeclAt
+    requires { ⌜ length (now s) ≤ 16384 ⌝ }
+    ensures { λ r. ⌜ r ≡ declHead (now (s .entry)) at ⌝ }
+{
+    match byte_at(s, at) {
+        Byte::Missing => DeclAt::Wrong,
+        Byte::Of(k, p) => decl_body(k, p),
+    }
+}
+
+// A target: a record 01 and nothing else.
+fn target_at(s: &[u8], names: u32, at: Place) -> Word
+    requires { ⌜ length (now s) ≤ 16384 ⌝ }
+    ensures { λ r. ⌜ r ≡ targetAt names (now (s .entry)) at ⌝ }
+{
+    match byte_at(s, at) {
+        Byte::Missing => Word::Missing,
+        Byte::Of(k, p) => {
+            if k == 0x01 {
+                return name_at(s, names, p);
+            }
+            Word::Missing
+        }
+    }
 }
