@@ -1,0 +1,1 @@
+//! From the bought checker's own formulas to the byte forms, and back to its problems.

@@ -1,0 +1,25 @@
+//! Finds the proved archive, `libhost.a`, and links it: in the folder that `TYPECHECK_ARCHIVE_DIR` names, or else in the repository's
+//! `target/staticlib`. Where it is not there the crate builds with `cfg(no_archive)`, and the reference reading answers in its place.
+
+use std::env;
+use std::path::PathBuf;
+
+fn main() {
+    println!("cargo:rustc-check-cfg=cfg(no_archive)");
+    println!("cargo:rerun-if-env-changed=TYPECHECK_ARCHIVE_DIR");
+    println!("cargo:rerun-if-changed=build.rs");
+    let own = PathBuf::from(env::var_os("CARGO_MANIFEST_DIR").unwrap());
+    let repository = own.ancestors().nth(2).unwrap();
+    let given = env::var_os("TYPECHECK_ARCHIVE_DIR").filter(|d| !d.is_empty()).map(PathBuf::from);
+    let folder = given.unwrap_or_else(|| repository.join("target/staticlib"));
+    let archive = folder.join("libhost.a");
+    // A file that is not there counts as changed, so an archive that appears later is found.
+    println!("cargo:rerun-if-changed={}", archive.display());
+    println!("cargo:rustc-env=TYPECHECK_ARCHIVE={}", archive.display());
+    if archive.is_file() {
+        println!("cargo:rustc-link-search=native={}", folder.display());
+        println!("cargo:rustc-link-lib=static=host");
+    } else {
+        println!("cargo:rustc-cfg=no_archive");
+    }
+}

@@ -1,0 +1,1 @@
+//! Type checking Event-B formulas from Rust.
