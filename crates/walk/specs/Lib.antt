@@ -7,4 +7,6 @@ pub mod Pieces
 pub mod Theorem
 pub mod Whole
 pub mod Safe
+pub mod Names
+pub mod Verdict
 pub mod Cases
