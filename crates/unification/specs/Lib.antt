@@ -11,3 +11,4 @@ pub mod Ops
 pub mod Code
 pub mod Tasks
 pub mod Make
+pub mod Frame
