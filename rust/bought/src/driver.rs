@@ -54,7 +54,7 @@ pub fn table_names(table: &[u8]) -> Option<Vec<&str>> {
 mod sides {
     use super::{Answer, Build, Silent};
 
-    pub fn infer(_: Build, _: &[u8], _: &[u8]) -> Result<Answer, Silent> {
+    pub fn infer(_: Build, _: &[u8], _: &[u8], _: u32) -> Result<Answer, Silent> {
         Err(Silent::Absent)
     }
 
@@ -121,12 +121,13 @@ mod sides {
         bytes: &'a [u8],
         at: usize,
         build: Build,
+        names: u32,
         factory: FormulaFactory,
     }
 
     impl<'a> Reader<'a> {
-        fn new(bytes: &'a [u8], build: Build) -> Reader<'a> {
-            Reader { bytes, at: 0, build, factory: FormulaFactory::default_factory() }
+        fn new(bytes: &'a [u8], build: Build, names: u32) -> Reader<'a> {
+            Reader { bytes, at: 0, build, names, factory: FormulaFactory::default_factory() }
         }
 
         fn byte(&mut self) -> Result<u8, Silent> {
@@ -140,7 +141,11 @@ mod sides {
         }
 
         fn name(&mut self) -> Result<String, Silent> {
-            Ok(format!("n{}", self.two()?))
+            let name = self.two()?;
+            if u32::from(name) >= self.names {
+                return Err(Silent::Malformed);
+            }
+            Ok(format!("n{name}"))
         }
 
         /// An operator of a family in its numbers' order.
@@ -586,10 +591,10 @@ mod sides {
 
     // ---- the three questions ----
 
-    pub fn infer(build: Build, formula: &[u8], environment: &[u8]) -> Result<Answer, Silent> {
-        let mut entries = Reader::new(environment, build);
+    pub fn infer(build: Build, formula: &[u8], environment: &[u8], names: u32) -> Result<Answer, Silent> {
+        let mut entries = Reader::new(environment, build, names);
         let environment = entries.environment()?;
-        let mut reader = Reader::new(formula, build);
+        let mut reader = Reader::new(formula, build, names);
         match formula.first() {
             Some(0x01..=0x0C) => {
                 let e = reader.expression()?;
@@ -626,7 +631,7 @@ mod sides {
 
     pub fn write_text(record: &[u8], table: &[u8]) -> Result<Vec<u8>, Silent> {
         let names = table_names(table).ok_or(Silent::Malformed)?;
-        let mut reader = Reader::new(record, Build::Exact);
+        let mut reader = Reader::new(record, Build::Exact, names.len() as u32);
         let ty = reader.ty()?;
         let ty = reader.whole(ty)?;
         Ok(named(&ty, &names)?.to_rodin_canonical().into_bytes())
@@ -646,9 +651,9 @@ mod sides {
     }
 }
 
-/// The bought checker's answer to a well-formed formula under a well-formed environment.
-pub fn infer(build: Build, formula: &[u8], environment: &[u8]) -> Result<Answer, Silent> {
-    sides::infer(build, formula, environment)
+/// The bought checker's answer to a well-formed formula under a well-formed environment, with so many names.
+pub fn infer(build: Build, formula: &[u8], environment: &[u8], names: u32) -> Result<Answer, Silent> {
+    sides::infer(build, formula, environment, names)
 }
 
 /// The type record that the bought `parse_canonical` reads, or none where it declines the text or reads a word outside the

@@ -10,7 +10,7 @@ fn hex(text: &str) -> Vec<u8> {
 }
 
 fn asked(build: Build, formula: &str, environment: &str) -> Result<Answer, Silent> {
-    infer(build, &hex(formula), &hex(environment))
+    infer(build, &hex(formula), &hex(environment), 1)
 }
 
 fn answers(formula: &str, environment: &str, number: u8, output: &str) {

@@ -1,0 +1,185 @@
+//! The sides of a comparison. Each is asked the same question with pages of the same dirty bytes.
+
+use bought::driver::{self, Build, Silent};
+use reference::Answer;
+
+/// An inference asked for.
+#[derive(Debug, Clone)]
+pub struct Question {
+    pub formula: Vec<u8>,
+    pub environment: Vec<u8>,
+    pub names: u32,
+    pub capacity: u32,
+    pub budget: u64,
+}
+
+/// The caller's memory: output and work.
+#[derive(Debug, Clone, PartialEq, Eq)]
+pub struct Room {
+    pub output: Vec<u8>,
+    pub work: Vec<u32>,
+}
+
+const DIRTY_BYTE: u8 = 0xA5;
+const DIRTY_WORD: u32 = 0xA5A5_5A5A;
+
+impl Room {
+    pub fn new() -> Room {
+        Room { output: Vec::new(), work: Vec::new() }
+    }
+
+    /// Memory of these lengths, every byte and word of it dirty.
+    pub fn dirty(&mut self, output: usize, work: usize) {
+        self.output.clear();
+        self.output.resize(output, DIRTY_BYTE);
+        self.work.clear();
+        self.work.resize(work, DIRTY_WORD);
+    }
+}
+
+impl Default for Room {
+    fn default() -> Room {
+        Room::new()
+    }
+}
+
+/// What was heard from a side.
+#[derive(Debug, Clone, PartialEq, Eq)]
+pub enum Heard {
+    /// It has no notion of the question.
+    Nothing,
+    /// It finds the input malformed, and says no more.
+    Malformed,
+    /// A verdict and the answer's bytes; nothing of places, steps or memory.
+    Verdict { number: u32, output: Vec<u8> },
+    /// A whole answer; its bytes are in the caller's memory.
+    Whole(Answer),
+}
+
+pub trait Side {
+    fn name(&self) -> &'static str;
+
+    fn infer(&mut self, question: &Question, room: &mut Room) -> Heard;
+
+    fn read_text(&mut self, text: &[u8], table: &[u8], page: &mut [u8]) -> Heard;
+
+    fn write_text(&mut self, record: &[u8], table: &[u8], page: &mut [u8], position: u64) -> Heard;
+
+    /// Whether it differs from the rules in a known way (docs/DIFFERENCES.md), so that its differences are counted and no fault.
+    fn known_to_differ(&self) -> bool {
+        false
+    }
+}
+
+/// The reference reading.
+pub struct Reference;
+
+impl Side for Reference {
+    fn name(&self) -> &'static str {
+        "reference"
+    }
+
+    fn infer(&mut self, q: &Question, room: &mut Room) -> Heard {
+        let Room { output, work } = room;
+        Heard::Whole(reference::infer(&q.formula, &q.environment, q.names, q.capacity, q.budget, output, work))
+    }
+
+    fn read_text(&mut self, text: &[u8], table: &[u8], page: &mut [u8]) -> Heard {
+        Heard::Whole(reference::text::read_text(text, table, page))
+    }
+
+    fn write_text(&mut self, record: &[u8], table: &[u8], page: &mut [u8], position: u64) -> Heard {
+        Heard::Whole(reference::text::write_text(record, table, page, position))
+    }
+}
+
+/// The bought checker, with exact explicit types or through its own factory.
+pub struct Bought(pub Build);
+
+impl Side for Bought {
+    fn name(&self) -> &'static str {
+        match self.0 {
+            Build::Exact => "bought",
+            Build::Factory => "bought through its factory",
+        }
+    }
+
+    fn infer(&mut self, q: &Question, _: &mut Room) -> Heard {
+        match driver::infer(self.0, &q.formula, &q.environment, q.names) {
+            Ok(answer) => Heard::Verdict { number: answer.number.into(), output: answer.output },
+            Err(Silent::Malformed) => Heard::Malformed,
+            Err(Silent::Absent | Silent::Unbuildable) => Heard::Nothing,
+        }
+    }
+
+    fn read_text(&mut self, text: &[u8], table: &[u8], _: &mut [u8]) -> Heard {
+        match driver::read_text(text, table) {
+            Ok(Some(record)) => Heard::Verdict { number: 0, output: record },
+            Ok(None) | Err(Silent::Malformed) => Heard::Malformed,
+            Err(_) => Heard::Nothing,
+        }
+    }
+
+    fn write_text(&mut self, record: &[u8], table: &[u8], _: &mut [u8], _: u64) -> Heard {
+        match driver::write_text(record, table) {
+            Ok(text) => Heard::Verdict { number: 0, output: text },
+            Err(Silent::Malformed) => Heard::Malformed,
+            Err(_) => Heard::Nothing,
+        }
+    }
+
+    fn known_to_differ(&self) -> bool {
+        self.0 == Build::Factory
+    }
+}
+
+/// The proved entries.
+pub struct Port;
+
+impl Port {
+    fn heard(answer: port::Answer) -> Heard {
+        let port::Answer { number, place, length, steps } = answer;
+        Heard::Whole(Answer { number, place, length, steps })
+    }
+}
+
+impl Side for Port {
+    fn name(&self) -> &'static str {
+        "port"
+    }
+
+    fn infer(&mut self, q: &Question, room: &mut Room) -> Heard {
+        if !port::PROVED {
+            return Heard::Nothing;
+        }
+        let Room { output, work } = room;
+        Port::heard(port::infer_in(&q.formula, &q.environment, q.names, q.capacity, q.budget, output, work))
+    }
+
+    fn read_text(&mut self, text: &[u8], table: &[u8], page: &mut [u8]) -> Heard {
+        if !port::PROVED {
+            return Heard::Nothing;
+        }
+        Port::heard(port::read_text(text, table, page))
+    }
+
+    fn write_text(&mut self, record: &[u8], table: &[u8], page: &mut [u8], position: u64) -> Heard {
+        if !port::PROVED {
+            return Heard::Nothing;
+        }
+        Port::heard(port::write_text(record, table, page, position))
+    }
+}
+
+/// The sides that are there, beside the judge.
+pub fn others() -> Vec<Box<dyn Side>> {
+    let mut sides: Vec<Box<dyn Side>> = Vec::new();
+    if bought::PRESENT {
+        sides.push(Box::new(Bought(Build::Exact)));
+        sides.push(Box::new(Bought(Build::Factory)));
+    }
+    if port::PROVED {
+        sides.push(Box::new(Port));
+    }
+    sides
+}
