@@ -1,0 +1,4 @@
+pub mod Answer
+pub mod Finish
+pub mod Infer
+pub mod Cost
