@@ -65,6 +65,10 @@ mod sides {
     pub fn write_text(_: &[u8], _: &[u8]) -> Result<Vec<u8>, Silent> {
         Err(Silent::Absent)
     }
+
+    pub fn read_freely(_: &str) -> Result<Option<String>, Silent> {
+        Err(Silent::Absent)
+    }
 }
 
 #[cfg(bought)]
@@ -637,6 +641,10 @@ mod sides {
         Ok(named(&ty, &names)?.to_rodin_canonical().into_bytes())
     }
 
+    pub fn read_freely(text: &str) -> Result<Option<String>, Silent> {
+        Ok(Type::parse_rodin(text).map(|ty| format!("{ty:?}")))
+    }
+
     /// The type with the table's words for the driver's own names.
     fn named(ty: &Type, names: &[&str]) -> Result<Type, Silent> {
         Ok(match ty {
@@ -665,4 +673,9 @@ pub fn read_text(text: &[u8], table: &[u8]) -> Result<Option<Vec<u8>>, Silent> {
 /// The text that the bought `to_rodin_canonical` writes for a type record.
 pub fn write_text(record: &[u8], table: &[u8]) -> Result<Vec<u8>, Silent> {
     sides::write_text(record, table)
+}
+
+/// What the bought reader reads a text as, under no table: its type as Rust shows it.
+pub fn read_freely(text: &str) -> Result<Option<String>, Silent> {
+    sides::read_freely(text)
 }

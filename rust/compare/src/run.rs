@@ -43,6 +43,9 @@ impl Run {
             budget: BUDGET,
         };
         let words = work_words(CAPACITY) as usize;
+        if rng.chance(2) {
+            self.edges(case, rng);
+        }
         let (answer, nodes) = self.ask(&question, OUTPUT, words);
         self.tally.answered(kind(&answer, &self.judged.output));
         if answer.number > 1 {
@@ -201,9 +204,23 @@ impl Run {
         for case in exhaustive::operators(&exhaustive::LEAVES, &exhaustive::ENVIRONMENTS) {
             self.case(&case, rng);
         }
-        for case in exhaustive::limits() {
+        for case in exhaustive::limits().into_iter().chain(exhaustive::shapes()) {
             self.case(&case, rng);
+            self.edges(&case, rng);
         }
+    }
+
+    /// A case at capacities, work slices and counts of names from both sides of number 2.
+    fn edges(&mut self, case: &Case, rng: &mut Rng) {
+        let capacity = *rng.pick(&[0, 1, 2, 3, 2_047, 32_767, 32_768, 32_769, u32::MAX]);
+        let names = *rng.pick(&[case.names, case.names, case.names, 256, 257, u32::MAX]);
+        let budget = *rng.pick(&[0, 1, 100, 1_000_000]);
+        let question =
+            Question { formula: case.formula.clone(), environment: case.environment.clone(), names, capacity, budget };
+        let words = work_words(capacity.min(40_000)) as usize;
+        let words = *rng.pick(&[0, words - 1, words, words, words + 1, words + 7]);
+        let room = *rng.pick(&[0, 1, 8, 100, OUTPUT]);
+        self.ask(&question, room, words);
     }
 
     /// Every byte string of at most `longest` bytes as a formula, as an environment and as a text.

@@ -188,3 +188,76 @@ pub fn limits() -> Vec<Case> {
     }
     cases
 }
+
+/// Formulas whose walk is long though they are short to tell: chains of equalities from both ends, types that double, notes that clash, compositions,
+/// partitions, sums, towers of powers.
+pub fn shapes() -> Vec<Case> {
+    let mut cases = Vec::new();
+    let mut add = |formula: Vec<u8>, environment: Vec<u8>, names: u32| cases.push(Case { formula, environment, names });
+    let name = |n: usize| [0x01, n as u8, (n >> 8) as u8];
+    let all = |parts: Vec<Vec<u8>>| [vec![0x24], (parts.len() as u16).to_le_bytes().to_vec(), parts.concat()].concat();
+    let equal = |left: &[u8], right: &[u8]| [&[0x22, 0], left, right].concat();
+    for n in [2usize, 3, 10, 50, 100, 200] {
+        let chain = |back: bool| -> Vec<Vec<u8>> {
+            let mut links: Vec<Vec<u8>> = (0..n).map(|i| equal(&name(i), &name(i + 1))).collect();
+            if back {
+                links.reverse();
+            }
+            links
+        };
+        for back in [false, true] {
+            for end in [vec![], vec![equal(&name(0), &[0x03])], vec![equal(&name(n), &[0x04, 8])]] {
+                let mut parts = chain(back);
+                parts.extend(end);
+                add(all(parts), Vec::new(), 256);
+            }
+            // A circle that closes, and one that would contain itself.
+            let mut parts = chain(back);
+            parts.push(equal(&name(n), &name(0)));
+            add(all(parts.clone()), Vec::new(), 256);
+            parts.push([&[0x22, 6][..], &name(n), &name(0)].concat());
+            add(all(parts), Vec::new(), 256);
+        }
+        let sum = [&[0x08, 5][..], &(n as u16).to_le_bytes(), &[0x08, 6, 2, 0, 0x03, 0x01, 0, 0].repeat(n)].concat();
+        add(equal(&sum, &[0x03]), Vec::new(), 1);
+        for op in [3, 4] {
+            let names: Vec<u8> = (0..n).flat_map(name).collect();
+            let composed = [&[0x08, op][..], &(n as u16).to_le_bytes(), &names].concat();
+            add(equal(&composed, &[0x04, 6]), Vec::new(), 256);
+            add(composed, [0x50, 0, 0, 0x43, 0x44, 0x41, 0x40].to_vec(), 256);
+        }
+        let parts: Vec<u8> = (0..n).flat_map(name).collect();
+        add([&[0x28][..], &(n as u16).to_le_bytes(), &parts].concat(), vec![0x50, 1, 0, 0x43, 0x41], 256);
+        // Every occurrence of a given name is noted, and each note may clash.
+        let row = |g: u8| [vec![0x44; n.min(60)], [0x42, g, 0].repeat(n.min(60) + 1)].concat();
+        add([&[0x22, 0, 0x01, 0, 0, 0x0B, 0x03][..], &row(0)].concat(), Vec::new(), 1);
+        add([&[0x22, 2, 0x01, 0, 0, 0x0B, 0x03][..], &row(0)].concat(), Vec::new(), 1);
+        add([&[0x26, 1, 0x12][..], &row(1), &[0x20]].concat(), vec![0x50, 0, 0, 0x41], 2);
+    }
+    for n in 1..=20usize {
+        // Each name's type is twice the one before.
+        let double = |i: usize| equal(&name(i + 1), &[&[0x07, 0][..], &name(i), &name(i)].concat());
+        let doubled: Vec<Vec<u8>> = (0..n).map(double).collect();
+        let solved = |first: bool| {
+            let mut parts = doubled.clone();
+            let at = if first { 0 } else { parts.len() };
+            parts.insert(at, equal(&name(0), &[0x03]));
+            all(parts)
+        };
+        add(solved(true), Vec::new(), 256);
+        add(solved(false), Vec::new(), 256);
+        if n > 1 {
+            add(all(doubled.clone()), Vec::new(), 256);
+        }
+        let mut twice = doubled.clone();
+        twice.extend((0..n).map(|i| equal(&name(i + 1 + n), &[&[0x07, 0][..], &name(i + n * usize::from(i > 0)), &name(0)].concat())));
+        twice.push(equal(&name(n), &name(2 * n)));
+        add(all(twice), Vec::new(), 256);
+        // Towers of powers, and a name below one.
+        for op in [1, 2, 3, 4] {
+            add([&[0x09, op].repeat(3 * n)[..], &name(0)].concat(), vec![0x50, 0, 0, 0x43, 0x41], 1);
+            add([&[0x09, op].repeat(3 * n)[..], &[0x04, 8]].concat(), Vec::new(), 1);
+        }
+    }
+    cases
+}
