@@ -2,3 +2,5 @@ pub mod Answer
 pub mod Finish
 pub mod Infer
 pub mod Cost
+pub mod Rows
+pub mod Conclude
