@@ -1,6 +1,7 @@
 pub mod Writer
 pub mod Scripts
 pub mod Walk
+pub mod Cases
 pub mod Tables
 pub mod Triple
 pub mod Pieces
@@ -8,5 +9,5 @@ pub mod Theorem
 pub mod Whole
 pub mod Safe
 pub mod Names
+pub mod Excluded
 pub mod Verdict
-pub mod Cases
