@@ -137,6 +137,46 @@ in-noted unified p z ps h = h
 in-noted mismatch p z ps h = in-left z ps ((0, p) ∷ []) h
 in-noted circular p z ps h = in-left z ps ((1, p) ∷ []) h
 
+in-split : (z y : ℕ × ℕ) (xs : List (ℕ × ℕ)) → In z (xs ++ (y ∷ [])) → In z xs ⊎ (z ≡ y)
+in-split z y [] (inl e) = inr e
+in-split z y [] (inr h) = absurd h
+in-split z y (x ∷ xs) (inl e) = inl (inl e)
+in-split z y (x ∷ xs) (inr h) = go (in-split z y xs h)
+  where
+    go : In z xs ⊎ (z ≡ y) → In z (x ∷ xs) ⊎ (z ≡ y)
+    go (inl i) = inl (inr i)
+    go (inr e) = inr e
+
+-- whence a problem comes: it stood there before, it is one of the walk's own, or a comparison failed (problem 0 or 1)
+pub data Whence (z : ℕ × ℕ) (old new : List (ℕ × ℕ)) : Type 0 where
+  before : In z old → Whence z old new
+  listing : In z new → Whence z old new
+  failing : z .0 < 2 → Whence z old new
+
+whence-listed : (z y : ℕ × ℕ) (old new : List (ℕ × ℕ)) → Whence z (old ++ (y ∷ [])) new → Whence z old (y ∷ new)
+whence-listed z y old new (before i) = go (in-split z y old i)
+  where
+    go : In z old ⊎ (z ≡ y) → Whence z old (y ∷ new)
+    go (inl h) = before h
+    go (inr e) = listing (inl e)
+whence-listed z y old new (listing i) = listing (inr i)
+whence-listed z y old new (failing l) = failing l
+
+whence-failed : (z y : ℕ × ℕ) (old new : List (ℕ × ℕ)) → y .0 < 2 → Whence z (old ++ (y ∷ [])) new → Whence z old new
+whence-failed z y old new k (before i) = go (in-split z y old i)
+  where
+    go : In z old ⊎ (z ≡ y) → Whence z old new
+    go (inl h) = before h
+    go (inr e) = failing (let q : z .0 ≡ y .0 = ap (λ (w : ℕ × ℕ). w .0) e in omega arith)
+whence-failed z y old new k (listing i) = listing i
+whence-failed z y old new k (failing l) = failing l
+
+whence-noted : (v : Verdict) (p : ℕ) (z : ℕ × ℕ) (old new : List (ℕ × ℕ)) → Whence z (noted v p old) new → Whence z old new
+unfolding noted
+whence-noted unified p z old new h = h
+whence-noted mismatch p z old new h = whence-failed z (0, p) old new (omega arith) h
+whence-noted circular p z old new h = whence-failed z (1, p) old new (omega arith) h
+
 pub record Ran (cap : ℕ) (s : Bench) (os : List Op) (s′ : Bench) : Type 0 where
   pub ready : Ready cap s′
   pub counted : s′ .count ≡ s .count + nodes os
@@ -144,13 +184,14 @@ pub record Ran (cap : ℕ) (s : Bench) (os : List Op) (s′ : Bench) : Type 0 wh
   pub judged : Judged s os s′
   pub kept : (z : ℕ × ℕ) → In z (s .problems) → In z (s′ .problems)
   pub told : (z : ℕ × ℕ) → In z (listed os) → In z (s′ .problems)
+  pub whence : (z : ℕ × ℕ) → In z (s′ .problems) → Whence z (s .problems) (listed os)
 
 module _ (cap : ℕ) where
   abbrev Runs : List Op → Bench → Type 0
   Runs os s = Exact (λ _. U) (Ran cap s os) (exec cap os s)
 
   ran-nil : (s : Bench) → Ready cap s → Ran cap s [] s
-  ran-nil s r = record { ready = r; counted = omega arith; takes = λ σ A m. A; judged = clean refl (λ σ A. (A, tt)); kept = λ z h. h; told = λ z h. absurd h }
+  ran-nil s r = record { ready = r; counted = omega arith; takes = λ σ A m. A; judged = clean refl (λ σ A. (A, tt)); kept = λ z h. h; told = λ z h. absurd h; whence = λ z h. before h }
 
   -- a node made
   module _ (s : Bench) (k a b : ℕ) (os : List Op) (r : Ready cap s) (l : s .count < cap) (i : Inside (s .count) (decode k a b)) where
@@ -183,12 +224,12 @@ module _ (cap : ℕ) where
 
     grown-ran : (s′ : Bench) → Ran cap (grow s k a b) os s′ → Ran cap s (make k a b ∷ os) s′
     unfolding grow
-    grown-ran s′ h = record { ready = h .ready; counted = (let q = h .counted in omega arith); takes = λ σ A m. h .takes σ (grown-takes σ A (m .0)) (m .1); judged = grown-judged s′ (h .judged); kept = h .kept; told = h .told }
+    grown-ran s′ h = record { ready = h .ready; counted = (let q = h .counted in omega arith); takes = λ σ A m. h .takes σ (grown-takes σ A (m .0)) (m .1); judged = grown-judged s′ (h .judged); kept = h .kept; told = h .told; whence = h .whence }
 
   -- a problem of the walk's own
   complain-ran : (s : Bench) (q p : ℕ) (os : List Op) (s′ : Bench) → Ran cap (complain s q p) os s′ → Ran cap s (list q p ∷ os) s′
   unfolding complain
-  complain-ran s q p os s′ h = record { ready = h .ready; counted = h .counted; takes = λ σ A m. absurd m; judged = hopeless (more (h .judged)) (λ σ A m. m); kept = λ z i. h .kept z (in-left z (s .problems) ((q, p) ∷ []) i); told = λ z i. say z i }
+  complain-ran s q p os s′ h = record { ready = h .ready; counted = h .counted; takes = λ σ A m. absurd m; judged = hopeless (more (h .judged)) (λ σ A m. m); kept = λ z i. h .kept z (in-left z (s .problems) ((q, p) ∷ []) i); told = λ z i. say z i; whence = λ z i. whence-listed z (q, p) (s .problems) (listed os) (h .whence z i) }
     where
       say : (z : ℕ × ℕ) → In z ((q, p) ∷ listed os) → In z (s′ .problems)
       say z (inl e) = h .kept z (subst (λ (y : ℕ × ℕ). In y (s .problems ++ ((q, p) ∷ []))) (sym e) (in-end (q, p) (s .problems)))
@@ -221,7 +262,7 @@ module _ (cap : ℕ) where
 
     learnt-ran : (o : Answer) → Outcome (s .count) (s .words) Eqn o → (s′ : Bench) → Ran cap (learn s p o) os s′ → Ran cap s (compare a b p ∷ os) s′
     unfolding learn
-    learnt-ran o g s′ h = record { ready = h .ready; counted = h .counted; takes = λ σ A m. h .takes σ (g .kept .takes σ A (m .0)) (m .1); judged = learnt-judged (o .0) (o .1) (g .kept) (g .judged) s′ (h .judged); kept = λ z i. h .kept z (in-noted (o .0) p z (s .problems) i); told = h .told }
+    learnt-ran o g s′ h = record { ready = h .ready; counted = h .counted; takes = λ σ A m. h .takes σ (g .kept .takes σ A (m .0)) (m .1); judged = learnt-judged (o .0) (o .1) (g .kept) (g .judged) s′ (h .judged); kept = λ z i. h .kept z (in-noted (o .0) p z (s .problems) i); told = h .told; whence = λ z i. whence-noted (o .0) p z (s .problems) (listed os) (h .whence z i) }
 
   pay-judged : (s : Bench) (os : List Op) (s′ : Bench) → Judged s os s′ → Judged s (pay ∷ os) s′
   pay-judged s os s′ (clean e f) = clean e f
@@ -231,7 +272,7 @@ module _ (cap : ℕ) where
   pub exec-exact : (os : List Op) (s : Bench) → Ready cap s → Sound (s .count) os → s .count + nodes os ≤ cap → Exact (λ _. U) (Ran cap s os) (exec cap os s)
   unfolding exec choose grow learn complain
   exec-exact [] s r w l = exact-ret _ s (ran-nil s r)
-  exec-exact (pay ∷ os) s r w l = exact-tick tt tt (exact-map (λ _ u. u) (λ s′ h. record { ready = h .ready; counted = h .counted; takes = h .takes; judged = pay-judged s os s′ (h .judged); kept = h .kept; told = h .told }) (exec-exact os s r w l))
+  exec-exact (pay ∷ os) s r w l = exact-tick tt tt (exact-map (λ _ u. u) (λ s′ h. record { ready = h .ready; counted = h .counted; takes = h .takes; judged = pay-judged s os s′ (h .judged); kept = h .kept; told = h .told; whence = h .whence }) (exec-exact os s r w l))
   exec-exact (make k a b ∷ os) s r w l =
       let q : s .count < cap = omega arith in
       exact-eq (ap (λ (c : Bool). choose c (exec cap os (grow s k a b)) (fail full tt)) (lt-ltb (s .count) cap q))
