@@ -12,11 +12,13 @@ use Rattle.formula.specs.declared.Fault.the-variants.{Malformed, Beyond}
 use Rattle.formula.specs.Tree.{Formula}
 use Rattle.formula.specs.Environment.{Env, Entries, lookup, spellEntries}
 use Rattle.formula.specs.Reader.{Got, ok, bad}
+use Rattle.formula.specs.Parse.{whole}
 use Rattle.unification.specs.Arena.{U}
 use Rattle.unification.specs.Ops.{nodes, exec}
 use Rattle.walk.specs.Walk.{walked}
 use Rattle.walk.specs.Verdict.{start}
 use Rattle.inference.specs.Answer.{Answer, refused, written, spellProblems, spellSlots}
+use Rattle.inference.specs.Entries.{environmentOf}
 use Rattle.inference.specs.Finish.{Outcome, typed, failed, finish}
 
 -- the first where the test holds, else the second
@@ -63,6 +65,13 @@ unfoldable pub formed : ℕ → ℕ → ℕ → Got Entries → Got Formula → 
 formed capacity budget room (bad fault) formula = faulty 3 fault
 formed capacity budget room (ok st entries) (bad fault) = faulty 4 fault
 formed capacity budget room (ok st entries) (ok st′ f) = answered budget room (concluded capacity (lookup entries) f budget)
+
+-- ---- the entry. room: the output's length; work: the work slice's
+unfoldable pub inferOf : (formula environment : List ℕ) (names capacity budget room work : ℕ) → Answer
+inferOf formula environment names capacity budget room work =
+    either (sized (length formula) (length environment) names capacity work)
+    (formed capacity budget room (environmentOf names environment) (whole names formula))
+    (refused 2 0)
 
 -- ---- output and work afterwards: after number 2 as they were; else the answer's bytes, then zeros, and all zeros
 unfoldable pub outputAfter : Answer → List ℕ → List ℕ
