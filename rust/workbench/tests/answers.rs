@@ -360,3 +360,16 @@ fn formulas_as_people_write_them() {
         assert_eq!(formula.to_string(), text);
     }
 }
+
+/// The repository's README has a piece of the crate's own example, which is run with the documentation.
+#[test]
+fn the_readmes_example() {
+    let readme = include_str!("../../../README.md");
+    let piece = readme.split("```rust\n").nth(1).unwrap().split("```").next().unwrap();
+    let documented: String = include_str!("../src/lib.rs")
+        .lines()
+        .filter_map(|line| line.strip_prefix("//!"))
+        .map(|line| format!("{}\n", line.strip_prefix(' ').unwrap_or(line)))
+        .collect();
+    assert!(documented.contains(piece), "{piece}");
+}
