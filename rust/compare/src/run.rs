@@ -6,13 +6,17 @@ use generator::{exhaustive, Case, Rng};
 use reference::{infer_counting, work_words, Answer};
 
 use crate::hex;
-use crate::side::{Heard, Question, Room, Side};
+use crate::side::{Heard, Knows, Question, Room, Side};
 use crate::tally::Tally;
 
 /// Ample room for most formulas, and still quick.
-const CAPACITY: u32 = 2_048;
 const BUDGET: u64 = 300_000;
 const OUTPUT: usize = 8_192;
+
+/// A capacity that is ample for a formula's length: no record makes more than a few nodes for each of its bytes.
+fn ample(formula: &[u8]) -> u32 {
+    (64 + 16 * formula.len() as u32).min(2_048)
+}
 
 /// A run: the judge is the reference reading.
 pub struct Run {
@@ -35,14 +39,10 @@ impl Run {
 
     /// A case with ample room; then at the edges of what it needed: budget, capacity, output and work, exactly enough and one too few.
     pub fn case(&mut self, case: &Case, rng: &mut Rng) {
-        let question = Question {
-            formula: case.formula.clone(),
-            environment: case.environment.clone(),
-            names: case.names,
-            capacity: CAPACITY,
-            budget: BUDGET,
-        };
-        let words = work_words(CAPACITY) as usize;
+        let Case { formula, environment, names } = case;
+        let question =
+            Question { formula, environment, names: *names, capacity: ample(formula), budget: BUDGET };
+        let words = work_words(question.capacity) as usize;
         if rng.chance(2) {
             self.edges(case, rng);
         }
@@ -55,7 +55,7 @@ impl Run {
         let bytes = self.judged.output[..length].to_vec();
         // Exactly enough of everything, and then one too few of one thing.
         let capacity = (nodes as u32).max(1);
-        let enough = Question { capacity, budget: steps, ..question.clone() };
+        let enough = Question { capacity, budget: steps, ..question };
         let words = work_words(capacity) as usize;
         let (exact, _) = self.ask(&enough, length, words);
         self.expect("the same answer with exactly enough", &enough, exact == answer && self.judged.output == bytes);
@@ -90,7 +90,7 @@ impl Run {
     }
 
     /// What the reference reading must show of itself.
-    fn expect(&mut self, what: &str, question: &Question, holds: bool) {
+    fn expect(&mut self, what: &str, question: &Question<'_>, holds: bool) {
         if !holds {
             let size = question.formula.len() + question.environment.len();
             self.tally.differs(format!("reference: not {what}"), true, size, || told(question));
@@ -98,20 +98,20 @@ impl Run {
     }
 
     /// One question to every side, held against the judge's answer, which is left in `judged`.
-    fn ask(&mut self, question: &Question, output: usize, work: usize) -> (Answer, usize) {
+    fn ask(&mut self, question: &Question<'_>, output: usize, work: usize) -> (Answer, usize) {
         self.judged.dirty(output, work);
         let Room { output: page, work: memory } = &mut self.judged;
         let q = question;
-        let (answer, nodes) =
-            infer_counting(&q.formula, &q.environment, q.names, q.capacity, q.budget, page, memory);
-        let ample = q.capacity == CAPACITY && q.budget == BUDGET;
+        let (answer, nodes) = infer_counting(q.formula, q.environment, q.names, q.capacity, q.budget, page, memory);
         for side in &mut self.sides {
-            // A side without a notion of room is asked once.
-            let knows_room = side.name() == "port";
-            if knows_room {
-                self.other.dirty(output, work);
-            } else if !ample || matches!(answer.number, 2 | 5..=8) {
-                continue;
+            match side.knows() {
+                // It is asked once, where there is room.
+                Knows::Verdicts if q.budget != BUDGET || matches!(answer.number, 2 | 5..=8) => continue,
+                // More capacity changes nothing but 6, and the caller's work slice is not there.
+                Knows::Answers if matches!(answer.number, 2 | 6) => continue,
+                Knows::Verdicts => {}
+                Knows::Answers => self.other.dirty(output, 0),
+                Knows::Everything => self.other.dirty(output, work),
             }
             let heard = side.infer(q, &mut self.other);
             if heard == Heard::Nothing {
@@ -119,7 +119,9 @@ impl Run {
             }
             self.tally.compared(side.name());
             let class = match &heard {
-                Heard::Whole(other) => whole(&answer, &self.judged, other, &self.other),
+                Heard::Whole(other) => {
+                    whole(&answer, &self.judged, other, &self.other, side.knows() == Knows::Everything)
+                }
                 _ => verdict(&answer, &self.judged.output, &heard),
             };
             if let Some(class) = class {
@@ -152,7 +154,7 @@ impl Run {
         let answer = reference::text::read_text(text, table, &mut self.judged.output);
         self.tally.answered(format!("read: {}", number(&answer)));
         for side in &mut self.sides {
-            if side.known_to_differ() {
+            if side.known_to_differ() || side.knows() == Knows::Answers {
                 continue;
             }
             self.other.dirty(room, 0);
@@ -161,7 +163,7 @@ impl Run {
             let beyond = matches!(answer.number, 2 | 8) || (answer.number == 5 && answer.place == 0);
             let class = match &heard {
                 Heard::Nothing => continue,
-                Heard::Whole(other) => whole(&answer, &self.judged, other, &self.other),
+                Heard::Whole(other) => whole(&answer, &self.judged, other, &self.other, false),
                 _ if beyond => continue,
                 _ => verdict(&answer, &self.judged.output, &heard),
             };
@@ -179,14 +181,14 @@ impl Run {
         let answer = reference::text::write_text(record, table, &mut self.judged.output, position);
         self.tally.answered(format!("write: {}", number(&answer)));
         for side in &mut self.sides {
-            if side.known_to_differ() {
+            if side.known_to_differ() || side.knows() == Knows::Answers {
                 continue;
             }
             self.other.dirty(room, 0);
             let heard = side.write_text(record, table, &mut self.other.output, position);
             let class = match &heard {
                 Heard::Nothing => continue,
-                Heard::Whole(other) => whole(&answer, &self.judged, other, &self.other),
+                Heard::Whole(other) => whole(&answer, &self.judged, other, &self.other, false),
                 _ if matches!(answer.number, 2 | 5 | 8) => continue,
                 _ => verdict(&answer, self.judged.output.get(position as usize..).unwrap_or(&[]), &heard),
             };
@@ -215,8 +217,7 @@ impl Run {
         let capacity = *rng.pick(&[0, 1, 2, 3, 2_047, 32_767, 32_768, 32_769, u32::MAX]);
         let names = *rng.pick(&[case.names, case.names, case.names, 256, 257, u32::MAX]);
         let budget = *rng.pick(&[0, 1, 100, 1_000_000]);
-        let question =
-            Question { formula: case.formula.clone(), environment: case.environment.clone(), names, capacity, budget };
+        let question = Question { formula: &case.formula, environment: &case.environment, names, capacity, budget };
         let words = work_words(capacity.min(40_000)) as usize;
         let words = *rng.pick(&[0, words - 1, words, words, words + 1, words + 7]);
         let room = *rng.pick(&[0, 1, 8, 100, OUTPUT]);
@@ -237,11 +238,11 @@ impl Run {
 }
 
 /// A question as a line.
-fn told(q: &Question) -> String {
+fn told(q: &Question<'_>) -> String {
     format!(
         "formula {} environment {} names {} capacity {} budget {}",
-        hex(&q.formula),
-        hex(&q.environment),
+        hex(q.formula),
+        hex(q.environment),
         q.names,
         q.capacity,
         q.budget
@@ -270,7 +271,7 @@ fn kind(answer: &Answer, output: &[u8]) -> String {
 }
 
 /// Where a whole answer differs from the judge's: every field, every byte of output and every word of work.
-fn whole(answer: &Answer, judged: &Room, other: &Answer, room: &Room) -> Option<String> {
+fn whole(answer: &Answer, judged: &Room, other: &Answer, room: &Room, work: bool) -> Option<String> {
     if answer.number != other.number {
         return Some(format!("number {} for {}", other.number, answer.number));
     }
@@ -286,7 +287,7 @@ fn whole(answer: &Answer, judged: &Room, other: &Answer, room: &Room) -> Option<
     if judged.output != room.output {
         return Some(format!("output of number {}", answer.number));
     }
-    if judged.work != room.work {
+    if work && judged.work != room.work {
         return Some(format!("work of number {}", answer.number));
     }
     None

@@ -4,10 +4,10 @@ use bought::driver::{self, Build, Silent};
 use reference::Answer;
 
 /// An inference asked for.
-#[derive(Debug, Clone)]
-pub struct Question {
-    pub formula: Vec<u8>,
-    pub environment: Vec<u8>,
+#[derive(Debug, Clone, Copy)]
+pub struct Question<'a> {
+    pub formula: &'a [u8],
+    pub environment: &'a [u8],
     pub names: u32,
     pub capacity: u32,
     pub budget: u64,
@@ -56,10 +56,23 @@ pub enum Heard {
     Whole(Answer),
 }
 
+/// What a side has a notion of.
+#[derive(Debug, Clone, Copy, PartialEq, Eq)]
+pub enum Knows {
+    /// Verdicts and answer bytes of well-formed input, in any amount of room.
+    Verdicts,
+    /// Whole answers, in memory of its own at capacity 2,048.
+    Answers,
+    /// Whole answers, and what becomes of the caller's memory.
+    Everything,
+}
+
 pub trait Side {
     fn name(&self) -> &'static str;
 
-    fn infer(&mut self, question: &Question, room: &mut Room) -> Heard;
+    fn knows(&self) -> Knows;
+
+    fn infer(&mut self, question: &Question<'_>, room: &mut Room) -> Heard;
 
     fn read_text(&mut self, text: &[u8], table: &[u8], page: &mut [u8]) -> Heard;
 
@@ -79,9 +92,13 @@ impl Side for Reference {
         "reference"
     }
 
-    fn infer(&mut self, q: &Question, room: &mut Room) -> Heard {
+    fn knows(&self) -> Knows {
+        Knows::Everything
+    }
+
+    fn infer(&mut self, q: &Question<'_>, room: &mut Room) -> Heard {
         let Room { output, work } = room;
-        Heard::Whole(reference::infer(&q.formula, &q.environment, q.names, q.capacity, q.budget, output, work))
+        Heard::Whole(reference::infer(q.formula, q.environment, q.names, q.capacity, q.budget, output, work))
     }
 
     fn read_text(&mut self, text: &[u8], table: &[u8], page: &mut [u8]) -> Heard {
@@ -104,8 +121,12 @@ impl Side for Bought {
         }
     }
 
-    fn infer(&mut self, q: &Question, _: &mut Room) -> Heard {
-        match driver::infer(self.0, &q.formula, &q.environment, q.names) {
+    fn knows(&self) -> Knows {
+        Knows::Verdicts
+    }
+
+    fn infer(&mut self, q: &Question<'_>, _: &mut Room) -> Heard {
+        match driver::infer(self.0, q.formula, q.environment, q.names) {
             Ok(answer) => Heard::Verdict { number: answer.number.into(), output: answer.output },
             Err(Silent::Malformed) => Heard::Malformed,
             Err(Silent::Absent | Silent::Unbuildable) => Heard::Nothing,
@@ -133,8 +154,11 @@ impl Side for Bought {
     }
 }
 
-/// The proved entries.
-pub struct Port;
+/// The proved entries, inference in the caller's memory or in its own.
+pub enum Port {
+    Lent,
+    Own,
+}
 
 impl Port {
     fn heard(answer: port::Answer) -> Heard {
@@ -145,28 +169,32 @@ impl Port {
 
 impl Side for Port {
     fn name(&self) -> &'static str {
-        "port"
+        match self {
+            Port::Lent => "port",
+            Port::Own => "port in its own memory",
+        }
     }
 
-    fn infer(&mut self, q: &Question, room: &mut Room) -> Heard {
-        if !port::PROVED {
-            return Heard::Nothing;
+    fn knows(&self) -> Knows {
+        match self {
+            Port::Lent => Knows::Everything,
+            Port::Own => Knows::Answers,
         }
+    }
+
+    fn infer(&mut self, q: &Question<'_>, room: &mut Room) -> Heard {
         let Room { output, work } = room;
-        Port::heard(port::infer_in(&q.formula, &q.environment, q.names, q.capacity, q.budget, output, work))
+        Port::heard(match self {
+            Port::Lent => port::infer_in(q.formula, q.environment, q.names, q.capacity, q.budget, output, work),
+            Port::Own => port::infer(q.formula, q.environment, q.names, q.budget, output),
+        })
     }
 
     fn read_text(&mut self, text: &[u8], table: &[u8], page: &mut [u8]) -> Heard {
-        if !port::PROVED {
-            return Heard::Nothing;
-        }
         Port::heard(port::read_text(text, table, page))
     }
 
     fn write_text(&mut self, record: &[u8], table: &[u8], page: &mut [u8], position: u64) -> Heard {
-        if !port::PROVED {
-            return Heard::Nothing;
-        }
         Port::heard(port::write_text(record, table, page, position))
     }
 }
@@ -179,7 +207,8 @@ pub fn others() -> Vec<Box<dyn Side>> {
         sides.push(Box::new(Bought(Build::Factory)));
     }
     if port::PROVED {
-        sides.push(Box::new(Port));
+        sides.push(Box::new(Port::Lent));
+        sides.push(Box::new(Port::Own));
     }
     sides
 }

@@ -1,6 +1,6 @@
 //! Compares the reference reading with every side that is there: the bought checker (exact, and through its factory), the proved entries.
 //!
-//!     compare [--cases N] [--seed S] [--strings L] [--only infer|text]
+//!     compare [--cases N] [--seed S] [--strings L] [--only infer|text] [--sides bought,factory,port]
 //!
 //! N formulas and N/8 texts from the seed, every operator over every pair of leaves, every limit, and every byte string of at most L bytes. The exit
 //! status is 1 where a difference is found that is not of a known class.
@@ -18,6 +18,7 @@ fn main() {
     let mut seed: u64 = 1;
     let mut strings: usize = 2;
     let (mut infer, mut text) = (true, true);
+    let mut wanted = "bought,factory,port".to_string();
     let mut arguments = std::env::args().skip(1);
     while let Some(argument) = arguments.next() {
         let value = arguments.next().unwrap_or_else(|| fail(&format!("{argument} has no value")));
@@ -26,6 +27,7 @@ fn main() {
             "--cases" => cases = number(),
             "--seed" => seed = number(),
             "--strings" => strings = number() as usize,
+            "--sides" => wanted = value,
             "--only" => match value.as_str() {
                 "infer" => text = false,
                 "text" => infer = false,
@@ -34,7 +36,15 @@ fn main() {
             _ => fail(&format!("no such option: {argument}")),
         }
     }
-    let sides = others();
+    let mut sides = others();
+    sides.retain(|side| {
+        let short = match side.name() {
+            "bought" => "bought",
+            "bought through its factory" => "factory",
+            _ => "port",
+        };
+        wanted.split(',').any(|name| name == short)
+    });
     bought::present_or_say("comparing with the bought checker");
     if !port::PROVED {
         eprintln!("skipped: the static library is not at {} (comparing with the proved entries)", port::ARCHIVE);
@@ -77,6 +87,6 @@ fn main() {
 }
 
 fn fail(why: &str) -> ! {
-    eprintln!("{why}\ncompare [--cases N] [--seed S] [--strings L] [--only infer|text]");
+    eprintln!("{why}\ncompare [--cases N] [--seed S] [--strings L] [--only infer|text] [--sides bought,factory,port]");
     std::process::exit(2)
 }
