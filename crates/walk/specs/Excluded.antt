@@ -106,7 +106,7 @@ unfolding enrol
 lists-enrol x p r = record { told = λ n row. refl; hands = λ n row. tt }
 
 -- an index
-below-next : (i n : ℕ) → ltb (suc i) (suc n) ≡ ltb i n
+pub below-next : (i n : ℕ) → ltb (suc i) (suc n) ≡ ltb i n
 below-next i n = go (ltb i n) refl
   where
     go : (c : Bool) → ltb i n ≡ c → ltb (suc i) (suc n) ≡ c
@@ -130,12 +130,12 @@ lists-counted [] i p = lists-eq (outside p (ltb i 0) (le-ltb i 0 (omega arith)))
 lists-counted (x ∷ xs) zero p = lists-eq (within p (ltb 0 (suc (length xs))) (lt-ltb 0 (suc (length xs)) (omega arith))) (lists-done x tt)
 lists-counted (x ∷ xs) (suc i) p = lists-eq (ap (λ (c : Bool). firstOf c [] ((4, p) ∷ [])) (sym (below-next i (length xs)))) (lists-counted xs i p)
 
-over-length : (xs B : List ℕ) → length (over xs B) ≡ length xs + length B
+pub over-length : (xs B : List ℕ) → length (over xs B) ≡ length xs + length B
 unfolding over
 over-length [] B = omega arith
 over-length (x ∷ xs) B = let e = over-length xs (x ∷ B) in omega arith
 
-abbrev Long : ℕ → List ℕ → Type 0
+abbrev pub Long : ℕ → List ℕ → Type 0
 Long n xs = length xs ≡ n
 
 module _ (Γ : Env) where

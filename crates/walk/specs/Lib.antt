@@ -10,4 +10,5 @@ pub mod Whole
 pub mod Safe
 pub mod Names
 pub mod Excluded
+pub mod Nodes
 pub mod Verdict
