@@ -42,7 +42,6 @@ byteOf p (b ∷ l) = B.Of b (place (p + 1))
 
 -- the byte at p
 unfoldable pub byteAt : List ℕ → Place → Byte
-unfolding byteOf
 byteAt s p = byteOf (p .0) (drop (p .0) s)
 
 unfoldable pub onByte : {A : Type 0} → A → Byte → (ℕ → Place → A) → A

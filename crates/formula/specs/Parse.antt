@@ -34,7 +34,6 @@ use Rattle.formula.specs.Limits.{max-depth, levels}
 -- ---- declarations
 
 unfoldable pub declBy : ℕ → List ℕ → ℕ → St → DeclHead → Got Decl
-unfolding andThen onNext
 declBy names s left st (Plain e) = onNext (declareOf e st) λ st₁. ok st₁ (plain (st .at .0))
 declBy names s left st (Typed e) = onNext (declareOf e st) λ st₁. andThen (typeIn names s left st₁) λ t st₂. ok st₂ (typed (st .at .0) t)
 declBy names s left st (Annotated e) = onNext (declareOf e st) λ st₁. andThen (spellingIn names s left st₁) λ x st₂. ok st₂ (annotated (st .at .0) x)
@@ -55,7 +54,6 @@ declsAt names s left n st = many [] _∷_ (declAt names s left) n st
 
 module _ (names : ℕ) (s : List ℕ) (left : ℕ) (X : Bool → St → Got Expr) (Q : St → Got Pred) (st : St) where
   unfoldable pub exprBy : ExprHead → Got Expr
-  unfolding andThen onNext closing
   exprBy (Free n e) = onNext (ownOf e st) λ st₁. ok st₁ (free (st .at .0) (n .0))
   exprBy (Bound i e) = onNext (ownOf e st) λ st₁. ok st₁ (bound (st .at .0) i)
   exprBy (Literal e) = onNext (ownOf e st) λ st₁. ok st₁ (literal (st .at .0))
@@ -71,7 +69,6 @@ module _ (names : ℕ) (s : List ℕ) (left : ℕ) (X : Bool → St → Got Expr
   exprBy (Explicit e) = andThen (typeIn names s left (moved e st)) λ t st₁. andThen (X true st₁) λ a st₂. ok st₂ (explicit (st .at .0) t a)
 
   unfoldable pub predBy : PredHead → Got Pred
-  unfolding andThen closing
   predBy (Constant e) = ok (moved e st) (constant (st .at .0))
   predBy (Variable e) = ok (moved e st) (variable (st .at .0))
   predBy (Relational o e) = andThen (X false (moved e st)) λ a st₁. andThen (X false st₁) λ b st₂. ok st₂ (relational (st .at .0) o a b)
@@ -118,7 +115,6 @@ predsAt left names s n st = many end also (predAt left names s) n st
 -- ---- formulas
 
 unfoldable pub targetBy : St → Word → Got Target
-unfolding onNext
 targetBy st W.Missing = bad (Malformed (st .at))
 targetBy st (W.Of n e) = onNext (ownOf e st) λ st₁. ok st₁ (record { place = st .at .0; name = n })
 
@@ -126,7 +122,6 @@ unfoldable pub targetIn : ℕ → List ℕ → St → Got Target
 targetIn names s st = targetBy st (targetAt names s (st .at))
 
 unfoldable pub pairIn : ℕ → ℕ → List ℕ → St → Got (Target × Expr)
-unfolding andThen
 pairIn left names s st = andThen (targetIn names s st) λ t st₁. andThen (exprAt left names s false st₁) λ a st₂. ok st₂ (t, a)
 
 unfoldable pub targetsAt : ℕ → List ℕ → ℕ → St → Got (List Target)
@@ -137,7 +132,6 @@ pairsAt left names s n st = many [] _∷_ (pairIn left names s) n st
 
 -- an assignment of kind k, its n targets from p on
 unfoldable pub becomesBy : ℕ → ℕ → List ℕ → ℕ → Place → St → ℕ → Got Formula
-unfolding andThen
 becomesBy left names s zero e st k = bad (Malformed (st .at))
 becomesBy left names s (suc n) e st k =
     pick (eqb k 0x30) (andThen (pairsAt left names s (suc n) (moved e st)) λ xs st₁. ok st₁ (becomes (st .at .0) xs))
@@ -150,7 +144,6 @@ becomesAt names s st k p = onByte (bad (Malformed (st .at))) (fewAt s p) λ n e.
 
 -- by the kind of the root
 unfoldable pub rootBy : ℕ → List ℕ → St → ℕ → Place → Got Formula
-unfolding andThen
 rootBy names s st k p =
     pick (ltb k 0x20) (andThen (exprAt levels names s false st) λ a st₁. ok st₁ (expression a))
     (pick (ltb k 0x30) (andThen (predAt levels names s st) λ q st₁. ok st₁ (predicate q))
@@ -168,5 +161,4 @@ unfoldable pub finish : {A : Type 0} → List ℕ → St → A → Got A
 finish s st a = pick (ltb (st .at .0) (length s)) (bad (Malformed (st .at))) (ok st a)
 
 unfoldable pub whole : ℕ → List ℕ → Got Formula
-unfolding andThen
 whole names s = andThen (formulaAt names s start) λ f st. finish s st f

@@ -33,7 +33,6 @@ forget (bad f) = Stop f
 
 -- reading goes on after an outcome
 unfoldable pub after : {A : Type 0} → Out → (St → Got A) → Out
-unfolding forget
 after (Next st) m = forget (m st)
 after (Stop f) m = Stop f
 
@@ -43,7 +42,6 @@ onNext (Stop f) k = bad f
 
 -- n things, one after the other, joined by cons
 unfoldable pub many : {A B : Type 0} → B → (A → B → B) → (St → Got A) → ℕ → St → Got B
-unfolding andThen
 many nil cons m zero st = ok st nil
 many nil cons m (suc n) st = andThen (m st) λ a st₁. andThen (many nil cons m n st₁) λ b st₂. ok st₂ (cons a b)
 
@@ -74,19 +72,16 @@ unfoldable pub closed : ℕ → St → St
 closed opened st = record { at = st .at; slots = st .slots; opened = opened }
 
 unfoldable pub closing : {A : Type 0} → ℕ → Got A → Got A
-unfolding closed
 closing opened (ok st a) = ok (closed opened st) a
 closing opened (bad f) = bad f
 
 unfoldable pub closedOf : ℕ → Out → Out
-unfolding closed
 closedOf opened (Next st) = Next (closed opened st)
 closedOf opened (Stop f) = Stop f
 
 -- ---- types
 
 unfoldable pub typeGot : TypeAt → St → Got Ty
-unfolding moved
 typeGot (got t e) st = ok (moved (place e) st) t
 typeGot (malformed p) st = bad (Malformed (place p))
 typeGot (deep p) st = bad (Beyond (place p))
@@ -96,17 +91,12 @@ unfoldable pub typeIn : ℕ → List ℕ → ℕ → St → Got Ty
 typeIn names s left st = typeGot (typeAt left names s (st .at .0)) st
 
 unfoldable pub noType : ℕ → Place → St → Got Spelling
-unfolding moved
 noType zero e st = bad (Beyond (st .at))
 noType (suc left) e st = ok (moved e st) no-type
 
--- is 4F here
-unfoldable pub isNone : List ℕ → Place → Bool
-isNone s p = onByte false (byteAt s p) λ k e. eqb k 0x4F
+unfoldable pub spelledIn : ℕ → List ℕ → ℕ → St → Got Spelling
+spelledIn names s left st = andThen (typeIn names s left st) λ t st₁. ok st₁ (spells t)
 
 -- a type, or 4F
 unfoldable pub spellingIn : ℕ → List ℕ → ℕ → St → Got Spelling
-spellingIn names s left st =
-    pick (isNone s (st .at))
-    (noType left (place (st .at .0 + 1)) st)
-    (andThen (typeIn names s left st) λ t st₁. ok st₁ (spells t))
+spellingIn names s left st = onByte (spelledIn names s left st) (byteAt s (st .at)) λ k e. pick (eqb k 0x4F) (noType left e st) (spelledIn names s left st)

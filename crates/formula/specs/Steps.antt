@@ -1,14 +1,44 @@
--- The reader's parts, step by step, as the code takes them.
+-- The parse, step by step, as the code takes it: the code keeps the state and forgets the tree.
 use Prim.Native.Nat.{ℕ, zero, suc, _+_, _-_, _≤_, _<_}
 use native.Mathlib.Omega.{arith}
+use native.Mathlib.Numerals.{sub-one}
 use mathlib.Core.Path.{_≡_, refl, sym, ap, _∙_}
+use mathlib.Core.Bool.{Bool, true, false}
 use mathlib.Core.List.{List, [], _∷_}
-use lib.ListN.{length, getD, drop, drop-of-length-le}
-use lib.Seq.{drop-cons}
+use lib.ListN.{length, getD, take, drop, drop-of-length-le}
+use lib.Seq.{drop-cons, take-all}
+use borrow.Author.Tests.{eq-eqb, ne-eqb}
+use Rattle.types.specs.declared.Name.{Name}
 use Rattle.types.specs.declared.Place.{Place}
+use Rattle.types.specs.declared.TypeEnd.{TypeEnd}
+use Rattle.types.specs.declared.TypeEnd.the-variants as T
+use Rattle.types.specs.Record.{TypeAt, got, malformed, deep, typeAt}
+use Rattle.types.specs.Code.{endOf}
 use Rattle.formula.specs.declared.Byte.{Byte}
 use Rattle.formula.specs.declared.Byte.the-variants as B
-use Rattle.formula.specs.Heads.{place, byteOf, byteAt}
+use Rattle.formula.specs.declared.ExprHead.{ExprHead}
+use Rattle.formula.specs.declared.ExprHead.the-variants.{Free, Bound, Literal, Atomic, Extension, Truth, Binary, Associative, Unary, Quantified, Ascribed, Explicit}
+use Rattle.formula.specs.declared.PredHead.{PredHead}
+use Rattle.formula.specs.declared.PredHead.the-variants.{Constant, Variable, Relational, Connective, Junction, Negation, Quantification, Simple, Multiple, Application}
+use Rattle.formula.specs.declared.DeclHead.{DeclHead}
+use Rattle.formula.specs.declared.DeclHead.the-variants.{Plain, Typed, Annotated}
+use Rattle.formula.specs.declared.ExprAt.{ExprAt}
+use Rattle.formula.specs.declared.ExprAt.the-variants as E
+use Rattle.formula.specs.declared.PredAt.{PredAt}
+use Rattle.formula.specs.declared.PredAt.the-variants as P
+use Rattle.formula.specs.declared.DeclAt.{DeclAt}
+use Rattle.formula.specs.declared.DeclAt.the-variants as D
+use Rattle.formula.specs.declared.St.{St}
+use Rattle.formula.specs.declared.Fault.{Fault}
+use Rattle.formula.specs.declared.Fault.the-variants.{Malformed, Beyond}
+use Rattle.formula.specs.declared.Out.{Out}
+use Rattle.formula.specs.declared.Out.the-variants.{Next, Stop}
+use Rattle.formula.specs.Tree.{Spelling, Decl, Expr, extension, truth, binary, associative, unary, quantified, ascribed, explicit, Exprs, none, more, Pred, relational, connective, junction, negation, quantification, simple, multiple, application, Preds, end, also}
+use Rattle.formula.specs.Heads.{pick, place, byteOf, byteAt, onByte, exprHead, predHead, declHead}
+use Rattle.formula.specs.Reader.{Got, ok, bad, andThen, forget, after, onNext, many, moved, ownOf, declareOf, closed, closing, closedOf, typeGot, typeIn, noType, spelledIn, spellingIn}
+use Rattle.formula.specs.Parse.{declBy, declIf, declAt, declsAt, exprBy, predBy, exprIf, predIf, exprDeep, predDeep, exprAt, predAt, exprsAt, predsAt}
+
+-- ---- bytes
 
 pub byte-in : (s : List ℕ) (p : Place) → p .0 < length s → B.Of (getD s (p .0) 0) (place (p .0 + 1)) ≡ byteAt s p
 unfolding byteAt byteOf
@@ -17,3 +47,304 @@ byte-in s p h = rw (drop-cons s (p .0) 0 h)
 pub byte-out : (s : List ℕ) (p : Place) → length s ≤ p .0 → B.Missing ≡ byteAt s p
 unfolding byteAt byteOf
 byte-out s p h = rw (drop-of-length-le s h)
+
+-- ---- forgetting
+
+pub forget-last : {A B : Type 0} (g : Got A) (f : A → B) → forget g ≡ forget (andThen g λ a st. ok st (f a))
+unfolding forget andThen
+forget-last (ok st a) f = refl
+forget-last (bad x) f = refl
+
+pub forget-then : {A B C : Type 0} (g : Got A) (k : A → St → Got B) (n : St → Got C) → ((a : A) (st : St) → forget (n st) ≡ forget (k a st)) → after (forget g) n ≡ forget (andThen g k)
+unfolding forget andThen after
+forget-then (ok st a) k n h = h a st
+forget-then (bad x) k n h = refl
+
+pub forget-next : {A C : Type 0} (o : Out) (k : St → Got A) (n : St → Got C) → ((st : St) → forget (n st) ≡ forget (k st)) → after o n ≡ forget (onNext o k)
+unfolding forget onNext after
+forget-next (Next st) k n h = h st
+forget-next (Stop x) k n h = refl
+
+pub forget-own : {A : Type 0} (o : Out) (f : A) → o ≡ forget (onNext o λ st. ok st f)
+unfolding forget onNext
+forget-own (Next st) f = refl
+forget-own (Stop x) f = refl
+
+pub forget-closing : {A : Type 0} (opened : ℕ) (g : Got A) → closedOf opened (forget g) ≡ forget (closing opened g)
+unfolding forget closing closedOf
+forget-closing opened (ok st a) = refl
+forget-closing opened (bad x) = refl
+
+pub after-next : {A : Type 0} (st : St) (m : St → Got A) → after (Next st) m ≡ forget (m st)
+unfolding after
+after-next st m = refl
+
+pub after-stop : {A : Type 0} (f : Fault) (m : St → Got A) → Stop f ≡ after (Stop f) m
+unfolding after
+after-stop f m = refl
+
+-- ---- many
+
+pub many-none : {A B : Type 0} (nil : B) (cons : A → B → B) (m : St → Got A) (n : ℕ) (o : Out) → n ≡ 0 → o ≡ after o (many nil cons m n)
+unfolding after forget many
+many-none nil cons m n (Next st) e = rw e
+many-none nil cons m n (Stop f) e = refl
+
+many-step : {A B : Type 0} (nil : B) (cons : A → B → B) (m : St → Got A) (n : ℕ) (o : Out) → after (after o m) (many nil cons m n) ≡ after o (many nil cons m (suc n))
+unfolding after forget many andThen
+many-step nil cons m n (Next st) = forget-then (m st) (λ a st₁. andThen (many nil cons m n st₁) λ b st₂. ok st₂ (cons a b)) (many nil cons m n) (λ a st₁. forget-last (many nil cons m n st₁) (cons a))
+many-step nil cons m n (Stop f) = refl
+
+pub many-next : {A B : Type 0} (nil : B) (cons : A → B → B) (m : St → Got A) (n : ℕ) (o : Out) → (n ≡ 0 → ⊥) → after (after o m) (many nil cons m (n - 1)) ≡ after o (many nil cons m n)
+many-next nil cons m zero o h = absurd (h refl)
+many-next nil cons m (suc n) o h = rw sub-one (many-step nil cons m n o)
+
+-- ---- types
+
+unfoldable pub typeOut : TypeEnd → St → Out
+unfolding moved
+typeOut (T.End e) st = Next (moved e st)
+typeOut (T.Malformed p) st = Stop (Malformed p)
+typeOut (T.Deep p) st = Stop (Beyond p)
+
+type-out : (x : TypeAt) (st : St) → typeOut (endOf x) st ≡ forget (typeGot x st)
+unfolding forget typeOut typeGot endOf
+type-out (got t e) st = refl
+type-out (malformed p) st = refl
+type-out (deep p) st = refl
+
+pub type-in : (names : ℕ) (s : List ℕ) (left : ℕ) (st : St) → length s ≤ 16384 → after (Next st) (typeIn names s left) ≡ typeOut (endOf (typeAt left names (take 4294967295 s) (st .at .0))) st
+unfolding after typeIn
+type-in names s left st h =
+    let e : take 4294967295 s ≡ s = take-all 4294967295 s (omega arith) in
+    rw e (sym (type-out (typeAt left names s (st .at .0)) st))
+
+module _ (names : ℕ) (s : List ℕ) (left : ℕ) (st : St) where
+  spelled : after (Next st) (typeIn names s left) ≡ forget (spelledIn names s left st)
+  unfolding after spelledIn
+  spelled = forget-last (typeIn names s left st) _
+
+  pub spelling-cut : byteAt s (st .at) ≡ B.Missing → after (Next st) (typeIn names s left) ≡ after (Next st) (spellingIn names s left)
+  unfolding spellingIn onByte
+  spelling-cut e = spelled ∙ (rw (after-next, e))
+
+  pub spelling-type : (k : ℕ) (q : Place) → byteAt s (st .at) ≡ B.Of k q → (k ≡ 0x4F → ⊥) → after (Next st) (typeIn names s left) ≡ after (Next st) (spellingIn names s left)
+  unfolding spellingIn onByte
+  spelling-type k q e h = spelled ∙ (rw (after-next, e, ne-eqb k 0x4F h))
+
+  pub spelling-deep : (k : ℕ) (q : Place) → byteAt s (st .at) ≡ B.Of k q → k ≡ 0x4F → left ≡ 0 → Stop (Beyond (st .at)) ≡ after (Next st) (spellingIn names s left)
+  unfolding spellingIn onByte noType forget after
+  spelling-deep k q e h z = rw (e, eq-eqb k 0x4F h, z)
+
+  pub spelling-none : (k : ℕ) (q : Place) → byteAt s (st .at) ≡ B.Of k q → k ≡ 0x4F → (left ≡ 0 → ⊥) → Next (moved q st) ≡ after (Next st) (spellingIn names s left)
+  unfolding spellingIn onByte forget after noType
+  spelling-none k q e h z = rw (e, eq-eqb k 0x4F h) (go left z)
+    where
+      go : (l : ℕ) → (l ≡ 0 → ⊥) → Next (moved q st) ≡ forget (noType l q st)
+      go zero z = absurd (z refl)
+      go (suc l) z = refl
+
+-- ---- declarations
+
+module _ (names : ℕ) (s : List ℕ) where
+  pub decl-wrong : (left : ℕ) (st : St) → declHead s (st .at) ≡ D.Wrong → Stop (Malformed (st .at)) ≡ after (Next st) (declAt names s left)
+  unfolding after forget declAt declIf
+  decl-wrong zero st e = rw e
+  decl-wrong (suc left) st e = rw e
+
+  pub decl-deep : (left : ℕ) (st : St) (h : DeclHead) → left ≡ 0 → declHead s (st .at) ≡ D.Is h → Stop (Beyond (st .at)) ≡ after (Next st) (declAt names s left)
+  unfolding after forget declAt declIf
+  decl-deep left st h z e = rw (e, z)
+
+  pub decl-node : (left : ℕ) (st : St) (h g : DeclHead) → (left ≡ 0 → ⊥) → declHead s (st .at) ≡ D.Is h → h ≡ g → (r : Out) → r ≡ forget (declBy names s (left - 1) st g) → r ≡ after (Next st) (declAt names s left)
+  unfolding after declAt declIf
+  decl-node zero st h g z e f r k = absurd (z refl)
+  decl-node (suc left) st h g z e f r k = k ∙ (rw (sub-one, e, f))
+
+  pub by-plain : (left : ℕ) (st : St) (e : Place) → declareOf e st ≡ forget (declBy names s left st (Plain e))
+  unfolding declBy
+  by-plain left st e = forget-own (declareOf e st) _
+
+  pub by-typed : (left : ℕ) (st : St) (e : Place) → after (declareOf e st) (typeIn names s left) ≡ forget (declBy names s left st (Typed e))
+  unfolding declBy
+  by-typed left st e = forget-next (declareOf e st) _ (typeIn names s left) (λ st₁. forget-last (typeIn names s left st₁) _)
+
+  pub by-annotated : (left : ℕ) (st : St) (e : Place) → after (declareOf e st) (spellingIn names s left) ≡ forget (declBy names s left st (Annotated e))
+  unfolding declBy
+  by-annotated left st e = forget-next (declareOf e st) _ (spellingIn names s left) (λ st₁. forget-last (spellingIn names s left st₁) _)
+
+-- ---- expressions and predicates
+
+module _ (names : ℕ) (s : List ℕ) where
+  pub expr-wrong : (left : ℕ) (bare : Bool) (st : St) → exprHead names s bare (st .at) ≡ E.Wrong → Stop (Malformed (st .at)) ≡ after (Next st) (exprAt left names s bare)
+  unfolding after forget exprAt exprIf exprDeep
+  expr-wrong zero bare st e = rw e
+  expr-wrong (suc left) bare st e = rw e
+
+  pub expr-deep : (left : ℕ) (bare : Bool) (st : St) (h : ExprHead) → left ≡ 0 → exprHead names s bare (st .at) ≡ E.Is h → Stop (Beyond (st .at)) ≡ after (Next st) (exprAt left names s bare)
+  unfolding after forget exprAt exprDeep
+  expr-deep left bare st h z e = rw (z, e)
+
+  pub expr-node : (left : ℕ) (bare : Bool) (st : St) (h g : ExprHead) → (left ≡ 0 → ⊥) → exprHead names s bare (st .at) ≡ E.Is h → h ≡ g → (r : Out) → r ≡ forget (exprBy names s (left - 1) (exprAt (left - 1) names s) (predAt (left - 1) names s) st g) → r ≡ after (Next st) (exprAt left names s bare)
+  unfolding after exprAt exprIf
+  expr-node zero bare st h g z e f r k = absurd (z refl)
+  expr-node (suc left) bare st h g z e f r k = k ∙ (rw (sub-one, e, f))
+
+  pub pred-wrong : (left : ℕ) (st : St) → predHead s (st .at) ≡ P.Wrong → Stop (Malformed (st .at)) ≡ after (Next st) (predAt left names s)
+  unfolding after forget predAt predIf predDeep
+  pred-wrong zero st e = rw e
+  pred-wrong (suc left) st e = rw e
+
+  pub pred-deep : (left : ℕ) (st : St) (h : PredHead) → left ≡ 0 → predHead s (st .at) ≡ P.Is h → Stop (Beyond (st .at)) ≡ after (Next st) (predAt left names s)
+  unfolding after forget predAt predDeep
+  pred-deep left st h z e = rw (z, e)
+
+  pub pred-node : (left : ℕ) (st : St) (h g : PredHead) → (left ≡ 0 → ⊥) → predHead s (st .at) ≡ P.Is h → h ≡ g → (r : Out) → r ≡ forget (predBy names s (left - 1) (exprAt (left - 1) names s) (predAt (left - 1) names s) st g) → r ≡ after (Next st) (predAt left names s)
+  unfolding after predAt predIf
+  pred-node zero st h g z e f r k = absurd (z refl)
+  pred-node (suc left) st h g z e f r k = k ∙ (rw (sub-one, e, f))
+
+-- one, two or three things after another
+module _ {A B C D : Type 0} (o : Out) (m : St → Got A) (n : St → Got B) (l : St → Got C) where
+  once : (f : A → D) → after o m ≡ forget (onNext o λ st. andThen (m st) λ a st₁. ok st₁ (f a))
+  once f = forget-next o _ m (λ st. forget-last (m st) f)
+
+  twice : (f : A → St → B → D) → after (after o m) n ≡ forget (onNext o λ st. andThen (m st) λ a st₁. andThen (n st₁) λ b st₂. ok st₂ (f a st₁ b))
+  unfolding after onNext forget
+  twice f = go o
+    where
+      go : (o : Out) → after (after o m) n ≡ forget (onNext o λ st. andThen (m st) λ a st₁. andThen (n st₁) λ b st₂. ok st₂ (f a st₁ b))
+      go (Next st) = forget-then (m st) (λ a st₁. andThen (n st₁) λ b st₂. ok st₂ (f a st₁ b)) n (λ a st₁. forget-last (n st₁) (f a st₁))
+      go (Stop x) = refl
+
+  thrice : (f : A → B → C → D) → after (after (after o m) n) l ≡ forget (onNext o λ st. andThen (m st) λ a st₁. andThen (n st₁) λ b st₂. andThen (l st₂) λ c st₃. ok st₃ (f a b c))
+  unfolding after onNext forget andThen
+  thrice f = go o
+    where
+      in-two : (a : A) (st₁ : St) → after (forget (n st₁)) l ≡ forget (andThen (n st₁) λ b st₂. andThen (l st₂) λ c st₃. ok st₃ (f a b c))
+      in-two a st₁ = forget-then (n st₁) (λ b st₂. andThen (l st₂) λ c st₃. ok st₃ (f a b c)) l (λ b st₂. forget-last (l st₂) (f a b))
+
+      on : (g : Got A) → after (after (forget g) n) l ≡ forget (andThen g λ a st₁. andThen (n st₁) λ b st₂. andThen (l st₂) λ c st₃. ok st₃ (f a b c))
+      on (ok st₁ a) = in-two a st₁
+      on (bad x) = refl
+
+      go : (o : Out) → after (after (after o m) n) l ≡ forget (onNext o λ st. andThen (m st) λ a st₁. andThen (n st₁) λ b st₂. andThen (l st₂) λ c st₃. ok st₃ (f a b c))
+      go (Next st) = on (m st)
+      go (Stop x) = refl
+
+-- what each head leads to, where X and Q read the records below
+module _ (names : ℕ) (s : List ℕ) (left : ℕ) (X : Bool → St → Got Expr) (Q : St → Got Pred) (st : St) (e : Place) where
+  pub by-free : (n : Name) → ownOf e st ≡ forget (exprBy names s left X Q st (Free n e))
+  unfolding exprBy
+  by-free n = forget-own (ownOf e st) _
+
+  pub by-bound : (i : ℕ) → ownOf e st ≡ forget (exprBy names s left X Q st (Bound i e))
+  unfolding exprBy
+  by-bound i = forget-own (ownOf e st) _
+
+  pub by-literal : ownOf e st ≡ forget (exprBy names s left X Q st (Literal e))
+  unfolding exprBy
+  by-literal = forget-own (ownOf e st) _
+
+  pub by-atomic : (o : ℕ) → ownOf e st ≡ forget (exprBy names s left X Q st (Atomic o e))
+  unfolding exprBy
+  by-atomic o = forget-own (ownOf e st) _
+
+  pub by-extension : (n : ℕ) → after (ownOf e st) (many none more (X false) n) ≡ forget (exprBy names s left X Q st (Extension n e))
+  unfolding exprBy
+  by-extension n = once (ownOf e st) (many none more (X false) n) Q Q _
+
+  pub by-truth : after (ownOf e st) Q ≡ forget (exprBy names s left X Q st (Truth e))
+  unfolding exprBy
+  by-truth = once (ownOf e st) Q Q Q _
+
+  pub by-binary : (o : ℕ) → after (after (ownOf e st) (X false)) (X false) ≡ forget (exprBy names s left X Q st (Binary o e))
+  unfolding exprBy
+  by-binary o = twice (ownOf e st) (X false) (X false) Q (λ a t b. binary (st .at .0) o a b)
+
+  pub by-associative : (o n : ℕ) → after (ownOf e st) (many none more (X false) n) ≡ forget (exprBy names s left X Q st (Associative o n e))
+  unfolding exprBy
+  by-associative o n = once (ownOf e st) (many none more (X false) n) Q Q _
+
+  pub by-unary : (o : ℕ) → after (ownOf e st) (X false) ≡ forget (exprBy names s left X Q st (Unary o e))
+  unfolding exprBy
+  by-unary o = once (ownOf e st) (X false) Q Q _
+
+  pub by-quantified : (o n : ℕ) → closedOf (st .opened) (after (after (after (ownOf e st) (declsAt names s left n)) Q) (X false)) ≡ forget (exprBy names s left X Q st (Quantified o n e))
+  unfolding exprBy
+  by-quantified o n = ap (closedOf (st .opened)) (thrice (ownOf e st) (declsAt names s left n) Q (X false) (λ ds q a. quantified (st .at .0) o ds q a)) ∙ forget-closing (st .opened) _
+
+  pub by-ascribed : after (after (ownOf e st) (X false)) (spellingIn names s left) ≡ forget (exprBy names s left X Q st (Ascribed e))
+  unfolding exprBy
+  by-ascribed = twice (ownOf e st) (X false) (spellingIn names s left) Q (λ a t x. ascribed (st .at .0) a (t .at .0) x)
+
+  pub by-explicit : after (after (Next (moved e st)) (typeIn names s left)) (X true) ≡ forget (exprBy names s left X Q st (Explicit e))
+  unfolding exprBy onNext
+  by-explicit = twice (Next (moved e st)) (typeIn names s left) (X true) Q (λ t u a. explicit (st .at .0) t a)
+
+  pub by-constant : Next (moved e st) ≡ forget (predBy names s left X Q st (Constant e))
+  unfolding predBy forget
+  by-constant = refl
+
+  pub by-variable : Next (moved e st) ≡ forget (predBy names s left X Q st (Variable e))
+  unfolding predBy forget
+  by-variable = refl
+
+  pub by-relational : (o : ℕ) → after (after (Next (moved e st)) (X false)) (X false) ≡ forget (predBy names s left X Q st (Relational o e))
+  unfolding predBy onNext
+  by-relational o = twice (Next (moved e st)) (X false) (X false) Q (λ a t b. relational (st .at .0) o a b)
+
+  pub by-connective : after (after (Next (moved e st)) Q) Q ≡ forget (predBy names s left X Q st (Connective e))
+  unfolding predBy onNext
+  by-connective = twice (Next (moved e st)) Q Q Q (λ a t b. connective (st .at .0) a b)
+
+  pub by-junction : (n : ℕ) → after (Next (moved e st)) (many end also Q n) ≡ forget (predBy names s left X Q st (Junction n e))
+  unfolding predBy onNext
+  by-junction n = once (Next (moved e st)) (many end also Q n) Q Q (junction (st .at .0))
+
+  pub by-negation : after (Next (moved e st)) Q ≡ forget (predBy names s left X Q st (Negation e))
+  unfolding predBy onNext
+  by-negation = once (Next (moved e st)) Q Q Q (negation (st .at .0))
+
+  pub by-quantification : (n : ℕ) → closedOf (st .opened) (after (after (Next (moved e st)) (declsAt names s left n)) Q) ≡ forget (predBy names s left X Q st (Quantification n e))
+  unfolding predBy onNext
+  by-quantification n = ap (closedOf (st .opened)) (twice (Next (moved e st)) (declsAt names s left n) Q Q (λ ds t q. quantification (st .at .0) ds q)) ∙ forget-closing (st .opened) _
+
+  pub by-simple : after (Next (moved e st)) (X false) ≡ forget (predBy names s left X Q st (Simple e))
+  unfolding predBy onNext
+  by-simple = once (Next (moved e st)) (X false) Q Q (simple (st .at .0))
+
+  pub by-multiple : (n : ℕ) → after (Next (moved e st)) (many none more (X false) n) ≡ forget (predBy names s left X Q st (Multiple n e))
+  unfolding predBy onNext
+  by-multiple n = once (Next (moved e st)) (many none more (X false) n) Q Q (multiple (st .at .0))
+
+  pub by-application : (n : ℕ) → after (Next (moved e st)) (many none more (X false) n) ≡ forget (predBy names s left X Q st (Application n e))
+  unfolding predBy onNext
+  by-application n = once (Next (moved e st)) (many none more (X false) n) Q Q (application (st .at .0))
+
+-- ---- rows of children
+
+module _ (names : ℕ) (s : List ℕ) (left n : ℕ) (o : Out) where
+  pub decls-none : n ≡ 0 → o ≡ after o (declsAt names s left n)
+  unfolding declsAt
+  decls-none e = many-none [] _∷_ (declAt names s left) n o e
+
+  pub decls-next : (r : Out) → r ≡ after o (declAt names s left) → (n ≡ 0 → ⊥) → after r (declsAt names s left (n - 1)) ≡ after o (declsAt names s left n)
+  unfolding declsAt
+  decls-next r k h = rw k (many-next [] _∷_ (declAt names s left) n o h)
+
+  pub exprs-none : n ≡ 0 → o ≡ after o (exprsAt left names s n)
+  unfolding exprsAt
+  exprs-none e = many-none none more (exprAt left names s false) n o e
+
+  pub exprs-next : (r : Out) → r ≡ after o (exprAt left names s false) → (n ≡ 0 → ⊥) → after r (exprsAt left names s (n - 1)) ≡ after o (exprsAt left names s n)
+  unfolding exprsAt
+  exprs-next r k h = rw k (many-next none more (exprAt left names s false) n o h)
+
+  pub preds-none : n ≡ 0 → o ≡ after o (predsAt left names s n)
+  unfolding predsAt
+  preds-none e = many-none end also (predAt left names s) n o e
+
+  pub preds-next : (r : Out) → r ≡ after o (predAt left names s) → (n ≡ 0 → ⊥) → after r (predsAt left names s (n - 1)) ≡ after o (predsAt left names s n)
+  unfolding predsAt
+  preds-next r k h = rw k (many-next end also (predAt left names s) n o h)

@@ -352,3 +352,305 @@ fn target_at(s: &[u8], names: u32, at: Place) -> Word
         }
     }
 }
+
+// ---- the reader's state
+
+// A record that owns a slot, and whose head ends at e.
+fn own(e: Place, st: St) -> Out
+    ensures { λ r. ⌜ r ≡ ownOf e st ⌝ }
+{
+    if st.slots < MAX_SLOTS {
+        return Out::Next(St {
+            at: e,
+            slots: st.slots + 1,
+            opened: st.opened,
+        });
+    }
+    let at = st.at;
+    Out::Stop(Fault::Beyond(at))
+}
+
+// A declaration owns a slot and is open from here on.
+fn declare(e: Place, st: St) -> Out
+    ensures { λ r. ⌜ r ≡ declareOf e st ⌝ }
+{
+    let at = st.at;
+    if st.opened < MAX_OPENED {
+        if st.slots < MAX_SLOTS {
+            return Out::Next(St {
+                at: e,
+                slots: st.slots + 1,
+                opened: st.opened + 1,
+            });
+        }
+        return Out::Stop(Fault::Beyond(at));
+    }
+    Out::Stop(Fault::Beyond(at))
+}
+
+// The state at another place.
+fn moved_to(e: Place, st: St) -> St
+    ensures { λ r. ⌜ r ≡ moved e st ⌝ }
+{
+    St {
+        at: e,
+        slots: st.slots,
+        opened: st.opened,
+    }
+}
+
+// At a binder's end as many declarations are open as before it.
+fn close(opened: u32, o: Out) -> Out
+    ensures { λ r. ⌜ r ≡ closedOf opened o ⌝ }
+{
+    match o {
+        Out::Stop(f) => Out::Stop(f),
+        Out::Next(st) => {
+            let at = st.at;
+            Out::Next(St {
+                at,
+                slots: st.slots,
+                opened,
+            })
+        }
+    }
+}
+
+// ---- types and declarations. left: the levels of records that remain, the next record's included
+
+fn read_type(s: &[u8], names: u32, left: u32, o: Out) -> Out
+    requires { ⌜ length (now s) ≤ 16384 ⌝ }
+    ensures { λ r. ⌜ r ≡ after o (typeIn names (now (s .entry)) left) ⌝ }
+{
+    match o {
+        Out::Stop(f) => Out::Stop(f),
+        Out::Next(st) => {
+            let at = st.at;
+            match types::type_end(s, names, at, left) {
+                TypeEnd::End(e) => Out::Next(moved_to(e, st)),
+                TypeEnd::Malformed(p) => Out::Stop(Fault::Malformed(p)),
+                TypeEnd::Deep(p) => Out::Stop(Fault::Beyond(p)),
+            }
+        }
+    }
+}
+
+// A type, or 4F.
+fn read_spelling(s: &[u8], names: u32, left: u32, o: Out) -> Out
+    requires { ⌜ length (now s) ≤ 16384 ⌝ }
+    ensures { λ r. ⌜ r ≡ after o (spellingIn names (now (s .entry)) left) ⌝ }
+{
+    match o {
+        Out::Stop(f) => Out::Stop(f),
+        Out::Next(st) => {
+            let at = st.at;
+            match byte_at(s, at) {
+                Byte::Missing => read_type(s, names, left, Out::Next(st)),
+                Byte::Of(k, e) => {
+                    if k == 0x4F {
+                        if left == 0 {
+                            return Out::Stop(Fault::Beyond(at));
+                        }
+                        return Out::Next(moved_to(e, st));
+                    }
+                    read_type(s, names, left, Out::Next(st))
+                }
+            }
+        }
+    }
+}
+
+fn read_decl(s: &[u8], names: u32, left: u32, o: Out) -> Out
+    requires { ⌜ length (now s) ≤ 16384 ⌝ }
+    ensures { λ r. ⌜ r ≡ after o (declAt names (now (s .entry)) left) ⌝ }
+{
+    match o {
+        Out::Stop(f) => Out::Stop(f),
+        Out::Next(st) => {
+            let at = st.at;
+            match decl_head(s, at) {
+                DeclAt::Wrong => Out::Stop(Fault::Malformed(at)),
+                DeclAt::Is(h) => {
+                    if left == 0 {
+                        return Out::Stop(Fault::Beyond(at));
+                    }
+                    match h {
+                        DeclHead::Plain(e) => declare(e, st),
+                        DeclHead::Typed(e) => read_type(s, names, left - 1, declare(e, st)),
+                        DeclHead::Annotated(e) => read_spelling(s, names, left - 1, declare(e, st)),
+                    }
+                }
+            }
+        }
+    }
+}
+
+fn read_decls(s: &[u8], names: u32, left: u32, n: u8, o: Out) -> Out
+    requires { ⌜ length (now s) ≤ 16384 ⌝ }
+    ensures { λ r. ⌜ r ≡ after o (declsAt names (now (s .entry)) left n) ⌝ }
+{
+    let mut cur = o;
+    let mut i = n;
+    while 0 < i {
+        cur = read_decl(s, names, left, cur);
+        i -= 1;
+    }
+    cur
+}
+
+// ---- expressions and predicates
+
+// bare: where no 0C may stand.
+fn read_expr(s: &[u8], names: u32, bare: bool, left: u32, o: Out) -> Out
+    requires { ⌜ length (now s) ≤ 16384 ⌝ }
+    ensures { λ r. ⌜ r ≡ after o (exprAt left names (now (s .entry)) bare) ⌝ }
+{
+    match o {
+        Out::Stop(f) => Out::Stop(f),
+        Out::Next(st) => {
+            let at = st.at;
+            match expr_head(s, names, bare, at) {
+                ExprAt::Wrong => Out::Stop(Fault::Malformed(at)),
+                ExprAt::Is(h) => {
+                    if left == 0 {
+                        return Out::Stop(Fault::Beyond(at));
+                    }
+                    let l = left - 1;
+                    match h {
+                        ExprHead::Free(_, e) => own(e, st),
+                        ExprHead::Bound(_, e) => own(e, st),
+                        ExprHead::Literal(e) => own(e, st),
+                        ExprHead::Atomic(_, e) => own(e, st),
+                        ExprHead::Extension(n, e) => read_exprs(s, names, l, n, own(e, st)),
+                        ExprHead::Truth(e) => read_pred(s, names, l, own(e, st)),
+                        ExprHead::Binary(_, e) => {
+                            let a = read_expr(s, names, false, l, own(e, st));
+                            read_expr(s, names, false, l, a)
+                        }
+                        ExprHead::Associative(_, n, e) => read_exprs(s, names, l, n, own(e, st)),
+                        ExprHead::Unary(_, e) => read_expr(s, names, false, l, own(e, st)),
+                        ExprHead::Quantified(_, n, e) => {
+                            let ds = read_decls(s, names, l, n, own(e, st));
+                            let q = read_pred(s, names, l, ds);
+                            close(st.opened, read_expr(s, names, false, l, q))
+                        }
+                        ExprHead::Ascribed(e) => {
+                            let a = read_expr(s, names, false, l, own(e, st));
+                            read_spelling(s, names, l, a)
+                        }
+                        ExprHead::Explicit(e) => {
+                            let t = read_type(s, names, l, Out::Next(moved_to(e, st)));
+                            read_expr(s, names, true, l, t)
+                        }
+                    }
+                }
+            }
+        }
+    }
+}
+
+fn read_exprs(s: &[u8], names: u32, left: u32, n: u16, o: Out) -> Out
+    requires { ⌜ length (now s) ≤ 16384 ⌝ }
+    ensures { λ r. ⌜ r ≡ after o (exprsAt left names (now (s .entry)) n) ⌝ }
+{
+    let mut cur = o;
+    let mut i = n;
+    while 0 < i {
+        match cur {
+            Out::Stop(f) => {
+                return Out::Stop(f);
+            }
+            Out::Next(_) => {
+                cur = read_expr(s, names, false, left, cur);
+            }
+        }
+        i -= 1;
+    }
+    cur
+}
+
+fn read_pred(s: &[u8], names: u32, left: u32, o: Out) -> Out
+    requires { ⌜ length (now s) ≤ 16384 ⌝ }
+    ensures { λ r. ⌜ r ≡ after o (predAt left names (now (s .entry))) ⌝ }
+{
+    match o {
+        Out::Stop(f) => Out::Stop(f),
+        Out::Next(st) => {
+            let at = st.at;
+            match pred_head(s, at) {
+                PredAt::Wrong => Out::Stop(Fault::Malformed(at)),
+                PredAt::Is(h) => {
+                    if left == 0 {
+                        return Out::Stop(Fault::Beyond(at));
+                    }
+                    let l = left - 1;
+                    match h {
+                        PredHead::Constant(e) => Out::Next(moved_to(e, st)),
+                        PredHead::Variable(e) => Out::Next(moved_to(e, st)),
+                        PredHead::Relational(_, e) => {
+                            let a = read_expr(s, names, false, l, Out::Next(moved_to(e, st)));
+                            read_expr(s, names, false, l, a)
+                        }
+                        PredHead::Connective(e) => {
+                            let a = read_pred(s, names, l, Out::Next(moved_to(e, st)));
+                            read_pred(s, names, l, a)
+                        }
+                        PredHead::Junction(n, e) => read_preds(
+                            s,
+                            names,
+                            l,
+                            n,
+                            Out::Next(moved_to(e, st)),
+                        ),
+                        PredHead::Negation(e) => read_pred(s, names, l, Out::Next(moved_to(e, st))),
+                        PredHead::Quantification(n, e) => {
+                            let ds = read_decls(s, names, l, n, Out::Next(moved_to(e, st)));
+                            close(st.opened, read_pred(s, names, l, ds))
+                        }
+                        PredHead::Simple(e) => read_expr(
+                            s,
+                            names,
+                            false,
+                            l,
+                            Out::Next(moved_to(e, st)),
+                        ),
+                        PredHead::Multiple(n, e) => read_exprs(
+                            s,
+                            names,
+                            l,
+                            n,
+                            Out::Next(moved_to(e, st)),
+                        ),
+                        PredHead::Application(n, e) => read_exprs(
+                            s,
+                            names,
+                            l,
+                            n,
+                            Out::Next(moved_to(e, st)),
+                        ),
+                    }
+                }
+            }
+        }
+    }
+}
+
+fn read_preds(s: &[u8], names: u32, left: u32, n: u16, o: Out) -> Out
+    requires { ⌜ length (now s) ≤ 16384 ⌝ }
+    ensures { λ r. ⌜ r ≡ after o (predsAt left names (now (s .entry)) n) ⌝ }
+{
+    let mut cur = o;
+    let mut i = n;
+    while 0 < i {
+        match cur {
+            Out::Stop(f) => {
+                return Out::Stop(f);
+            }
+            Out::Next(_) => {
+                cur = read_pred(s, names, left, cur);
+            }
+        }
+        i -= 1;
+    }
+    cur
+}

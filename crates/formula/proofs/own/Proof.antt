@@ -1,0 +1,26 @@
+use Rattle.formula.specs.Reader.{ownOf}
+use borrow.Author.Tests.{lt-ltb, le-ltb}
+use native.Mathlib.Omega.{arith}
+use mathlib.Core.Path.{_≡_, refl, sym, ap, _∙_}
+use borrow.Author.Needs.{needs}
+use Rattle.formula.proofs.own.Statement.{statement}
+use Rattle.formula.proofs.own.Tie as tie
+use Rattle.formula.proofs.own.Reads as reads
+use Rattle.formula.proofs.own.Lts as lts
+
+-- src/lib.rt:363:45
+add-t5 : tie.Need-add-t5
+add-t5 c = search needs
+
+-- src/lib.rt:363:9
+returns : tie.Need-returns
+unfolding ownOf
+returns c = rw (lt-ltb _ _ (c .before .if1 .taken))
+
+-- src/lib.rt:359:1
+returns-2 : tie.Need-returns-2
+unfolding ownOf
+returns-2 c = rw (le-ltb _ _ (c .before .if1 .left))
+
+pub own-spec : {M : Type 1} → statement M
+own-spec = tie.close (tie.spec add-t5 returns returns-2)
