@@ -9,6 +9,7 @@ pub mod Laws
 pub mod History
 pub mod Ops
 pub mod Code
+pub mod Kinds
 pub mod Tasks
 pub mod Make
 pub mod Frame

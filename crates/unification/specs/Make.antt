@@ -8,8 +8,8 @@ use mathlib.Core.Bool.{Bool, true, false, _&&_}
 use native.Mathlib.Omega.{arith}
 use lib.Dec.{ltb}
 use lib.ListN.{length}
-use borrow.Author.Tests.{lt-ltb, le-ltb}
-use Rattle.meter.specs.Meter.{Out, spent, halt, done, Why, broken, full, M, ret, fail, _>>=_, bind-ret}
+use borrow.Author.Tests.{lt-ltb, le-ltb, ltb-true}
+use Rattle.meter.specs.Meter.{Out, spent, halt, done, Why, broken, full, M, ret, fail, _>>=_, bind-ret, bind-fail}
 use Rattle.types.specs.Ty.{Atom, bool, int, given}
 use Rattle.unification.specs.Arena.{Node, free, link, leaf, power, pair, bad, Words, choose}
 use Rattle.unification.specs.Good.{Inside, pushAt}
@@ -35,7 +35,7 @@ build ws n bad = fail broken ws
 
 -- the power of a product: the product first
 unfoldable pub relate : Words → ℕ → ℕ → ℕ → M Words (ℕ × Words)
-relate ws n x y = build ws n (pair x y) >>= λ o. build (o .1) (suc (o .0)) (power (o .0))
+relate ws n x y = build ws n (pair x y) >>= λ o. build (o .1) (o .0 + 1) (power (o .0))
 
 -- the three ways
 pub make-done : (ws : Words) (n k a b : ℕ) → 3 * suc n ≤ length ws → n < 0xFFFFFFFF → makeOf ws n k a b ≡ ret (n, pushAt ws n k a b)
@@ -62,3 +62,59 @@ build-power ws n x l = rw (lt-ltb x n l) refl
 pub build-pair : (ws : Words) (n x y : ℕ) → x < n → y < n → build ws n (pair x y) ≡ makeOf ws n 0x44 x y
 unfolding build choose
 build-pair ws n x y l h = rw (lt-ltb x n l, lt-ltb y n h) refl
+
+-- the power of a product, step by step
+module _ (ws : Words) (n x y : ℕ) where
+  pub relate-done : (t : ℕ) (ws′ : Words) → build ws n (pair x y) ≡ ret (t, ws′) → relate ws n x y ≡ build ws′ (t + 1) (power t)
+  unfolding relate
+  relate-done t ws′ e = ap (λ (m : M Words (ℕ × Words)). m >>= λ o. build (o .1) (o .0 + 1) (power (o .0))) e ∙ bind-ret (t, ws′) (λ o. build (o .1) (o .0 + 1) (power (o .0)))
+
+  pub relate-stop : (w : Why) (ws′ : Words) → build ws n (pair x y) ≡ fail w ws′ → relate ws n x y ≡ fail w ws′
+  unfolding relate
+  relate-stop w ws′ e = ap (λ (m : M Words (ℕ × Words)). m >>= λ o. build (o .1) (o .0 + 1) (power (o .0))) e ∙ bind-fail w ws′ (λ o. build (o .1) (o .0 + 1) (power (o .0)))
+
+-- a node that was made stands at the count, and the next count fits
+module _ (ws : Words) (n : ℕ) (t : ℕ) (ws′ : Words) where
+  abbrev Small : Type 0
+  Small = (t ≡ n) × (t < 0xFFFFFFFF)
+
+  refuted : (w : Why) → fail {A = ℕ × Words} w ws ≡ ret (t, ws′) → Small
+  unfolding fail ret
+  refuted w e = let q : _≡_ {A = Out Words (ℕ × Words)} (halt w ws) (done (t, ws′) 0) = ap (λ m. m 0) e in let z : _≡_ {A = ℕ} 0 1 = cc in absurd (omega arith)
+
+  last-test : (c : Bool) (k a b : ℕ) → ltb n 0xFFFFFFFF ≡ c → choose {A = ℕ × Words} c (ret (n, pushAt ws n k a b)) (fail broken ws) ≡ ret (t, ws′) → Small
+  unfolding choose ret
+  last-test true k a b h e =
+      let q : _≡_ {A = Out Words (ℕ × Words)} (done (n, pushAt ws n k a b) 0) (done (t, ws′) 0) = ap (λ m. m 0) e in
+      let f : _≡_ {A = ℕ × Words} (n, pushAt ws n k a b) (t, ws′) = cc in let z : n ≡ t = ap (λ (o : ℕ × Words). o .0) f in let l = ltb-true n 0xFFFFFFFF h in (sym z, omega arith)
+  last-test false k a b h e = refuted broken e
+
+  room-test : (c : Bool) (k a b : ℕ) → choose {A = ℕ × Words} c (fail full ws) (choose {A = ℕ × Words} (ltb n 0xFFFFFFFF) (ret (n, pushAt ws n k a b)) (fail broken ws)) ≡ ret (t, ws′) → Small
+  unfolding choose
+  room-test true k a b e = refuted full e
+  room-test false k a b e = last-test (ltb n 0xFFFFFFFF) k a b refl e
+
+  count-test : (c d : Bool) (k a b : ℕ) → choose {A = ℕ × Words} c (fail broken ws) (choose {A = ℕ × Words} d (fail full ws) (choose {A = ℕ × Words} (ltb n 0xFFFFFFFF) (ret (n, pushAt ws n k a b)) (fail broken ws))) ≡ ret (t, ws′) → Small
+  unfolding choose
+  count-test true d k a b e = refuted broken e
+  count-test false d k a b e = room-test d k a b e
+
+  pub make-small : (k a b : ℕ) → makeOf ws n k a b ≡ ret (t, ws′) → (t ≡ n) × (t < 0xFFFFFFFF)
+  unfolding makeOf
+  make-small k a b e = count-test (ltb (length ws) (3 * n)) (ltb (length ws) (3 * n + 3)) k a b e
+
+  if-small : (c : Bool) (k a b : ℕ) → choose c (makeOf ws n k a b) (fail broken ws) ≡ ret (t, ws′) → Small
+  unfolding choose
+  if-small true k a b e = make-small k a b e
+  if-small false k a b e = refuted broken e
+
+  pub build-small : (nd : Node) → build ws n nd ≡ ret (t, ws′) → (t ≡ n) × (t < 0xFFFFFFFF)
+  unfolding build
+  build-small free e = make-small 0x4E 0 0 e
+  build-small (link j) e = refuted broken e
+  build-small (leaf bool) e = make-small 0x40 0 0 e
+  build-small (leaf int) e = make-small 0x41 0 0 e
+  build-small (leaf (given x)) e = make-small 0x42 x 0 e
+  build-small (power x) e = if-small (ltb x n) 0x43 x 0 e
+  build-small (pair x y) e = if-small (ltb x n && ltb y n) 0x44 x y e
+  build-small bad e = refuted broken e

@@ -5,12 +5,16 @@
 use Prim.Native.Nat.{ℕ, zero, suc, _+_, _*_, _≤_, _<_}
 use mathlib.Core.Path.{_≡_, refl, sym, _∙_, ap, ap₂, subst, fun-ext}
 use mathlib.Core.Bool.{Bool, true, false}
-use lib.Dec.{eqb}
-use Rattle.meter.specs.Meter.{Out, spent, halt, done, Why, broken, M, ret, fail, tick, _>>=_, reading, bind-assoc, bind-ret, bind-fail, tick-bind, reading-ret, reading-tick, reading-bind}
+use native.Mathlib.Omega.{arith}
+use lib.Dec.{eqb, ltb}
+use lib.ListN.{length}
+use borrow.Author.Tests.{ltb-true}
+use Rattle.meter.specs.Meter.{Out, spent, halt, done, Why, broken, M, ret, fail, tick, _>>=_, reading, bind-assoc, bind-ret, bind-fail, tick-bind, reading-ret, reading-tick, reading-bind, Metered, metered-ret, metered-bind, within-le}
 use Rattle.types.specs.Ty.{Atom, Ty}
-use Rattle.unification.specs.Arena.{Node, free, link, leaf, power, pair, bad, Words, U, nodeAt, choose, follow, resolve, inNode, occursF, occurs, allNode, solvedF, solved, typeNode, readF, read, Verdict, unified, mismatch, circular, Meeting, bindLeft, bindRight, agree, clash, down, both, meet, Pair, Answer, assign, next, meeting, unifyAt, unifyF, unify}
+use Rattle.unification.specs.Arena.{Node, free, link, leaf, power, pair, bad, Words, U, pick, inside, nodeAt, choose, follow, resolve, inNode, occursF, occurs, allNode, solvedF, solved, typeNode, readF, read, Verdict, unified, mismatch, circular, Meeting, bindLeft, bindRight, agree, clash, down, both, meet, Pair, Answer, assign, next, meeting, unifyAt, unifyF, unify}
 use Rattle.unification.specs.Good.{Root}
-use Rattle.unification.specs.Steps.{resolve-eq, occurs-eq, solved-eq, read-eq, unify-eq}
+use Rattle.unification.specs.Trees.{and-right}
+use Rattle.unification.specs.Steps.{resolve-metered, resolve-eq, occurs-eq, solved-eq, read-eq, unify-eq}
 
 -- where the bindings from t lead, and the node there
 unfoldable pub arrive : Words → ℕ → ℕ → M U (ℕ × Node)
@@ -134,3 +138,68 @@ module _ (ws : Words) (n : ℕ) where
       ∙ ap (tick ws) (ap (λ (m : M Words Task). m >>= perform (unify n) ws n) (reading-bind ws (resolve ws n a) (λ p. resolve ws n b >>= λ q. ask p q))
       ∙ bind-assoc (reading ws (resolve ws n a)) (λ p. reading ws (resolve ws n b >>= λ q. ask p q)) (perform (unify n) ws n)
       ∙ ap (λ (f : ℕ → M Words Answer). reading ws (resolve ws n a) >>= f) (fun-ext λ p. second b p)))
+
+-- what is left of a budget, and what was reached
+pub tick-left : {E A : Type 0} (e : E) {m : M E A} → Metered m → (b : ℕ) (a : A) (r : ℕ) → tick e m b ≡ done a r → r < b
+unfolding tick
+tick-left e h zero a r q = let z : _≡_ {A = ℕ} 0 1 = cc in absurd (omega arith)
+tick-left e h (suc b) a r q = let l = within-le b (h .within b) a r q in omega arith
+
+module _ (ws : Words) (n : ℕ) where
+  pub arrive-metered : (t : ℕ) → Metered (arrive ws n t)
+  unfolding arrive
+  arrive-metered t = metered-bind (resolve-metered ws n t) λ r. metered-ret _
+
+  pub arrive-left : (t b : ℕ) (o : ℕ × Node) (r : ℕ) → arrive ws n t b ≡ done o r → r ≤ b
+  arrive-left t b o r e = within-le b (arrive-metered t .within b) o r e
+
+  -- a node that stands where it was looked up, and is no binding
+  abbrev pub Stands : ℕ × Node → Type 0
+  Stands o = (nodeAt ws n (o .0) ≡ o .1) × Root (o .1)
+
+  abbrev Standing : ℕ → Type 0
+  Standing b = (t : ℕ) (o : ℕ × Node) (r : ℕ) → arrive ws n t b ≡ done o r → Stands o
+
+  here : (t : ℕ) (nd : Node) (b : ℕ) (o : ℕ × Node) (r : ℕ) → nodeAt ws n t ≡ nd → Root nd → arrive ws n t b ≡ done o r → Stands o
+  unfolding ret
+  here t nd b o r e q h =
+      let p : _≡_ {A = Out U (ℕ × Node)} (done (t, nd) b) (done o r) = sym (ap (λ (m : M U (ℕ × Node)). m b) (arrive-root ws n t nd e q)) ∙ h in
+      let f : _≡_ {A = ℕ × Node} (t, nd) o = cc in
+      subst (λ (z : ℕ × Node). Stands z) f (e, q)
+
+  further : (t j b : ℕ) (o : ℕ × Node) (r : ℕ) → nodeAt ws n t ≡ link j → ((c : ℕ) → suc c ≡ b → Standing c) → tick tt (arrive ws n j) b ≡ done o r → Stands o
+  unfolding tick
+  further t j zero o r e rec h = let z : _≡_ {A = ℕ} 0 1 = cc in absurd (omega arith)
+  further t j (suc c) o r e rec h = rec c refl j o r h
+
+  nowhere : (t b : ℕ) (o : ℕ × Node) (r : ℕ) → nodeAt ws n t ≡ bad → arrive ws n t b ≡ done o r → Stands o
+  unfolding fail
+  nowhere t b o r e h =
+      let p : _≡_ {A = Out U (ℕ × Node)} (halt broken tt) (done o r) = sym (ap (λ (m : M U (ℕ × Node)). m b) (arrive-bad ws n t e)) ∙ h in
+      let z : _≡_ {A = ℕ} 0 1 = cc in absurd (omega arith)
+
+  at-node : (b : ℕ) → ((c : ℕ) → suc c ≡ b → Standing c) → (t : ℕ) (nd : Node) → nodeAt ws n t ≡ nd → (o : ℕ × Node) (r : ℕ) → arrive ws n t b ≡ done o r → Stands o
+  at-node b rec t free e o r h = here t free b o r e tt h
+  at-node b rec t (link j) e o r h = further t j b o r e rec (sym (ap (λ (m : M U (ℕ × Node)). m b) (arrive-link ws n t j e)) ∙ h)
+  at-node b rec t (leaf p) e o r h = here t (leaf p) b o r e tt h
+  at-node b rec t (power x) e o r h = here t (power x) b o r e tt h
+  at-node b rec t (pair x y) e o r h = here t (pair x y) b o r e tt h
+  at-node b rec t bad e o r h = nowhere t b o r e h
+
+  below : (k b : ℕ) → b < k → Standing b
+  below zero b l = absurd (omega arith)
+  below (suc k) b l = λ t o r h. at-node b (λ c e. below k c (omega arith)) t (nodeAt ws n t) refl o r h
+
+  -- where bindings lead: the node there, and it is no binding
+  pub arrive-stands : (t b : ℕ) (o : ℕ × Node) (r : ℕ) → arrive ws n t b ≡ done o r → Stands o
+  arrive-stands t b = below (suc b) b (omega arith) t
+
+  lies-at : (c : Bool) (nd : Node) (x : ℕ) → inside ws n x ≡ c → pick c nd bad ≡ nodeAt ws n x → Root (nodeAt ws n x) → 3 * x + 2 < length ws
+  unfolding inside
+  lies-at true nd x e q r = ltb-true (3 * x + 2) (length ws) (and-right (ltb x n) (ltb (3 * x + 2) (length ws)) e)
+  lies-at false nd x e q r = absurd (subst (λ (k : Node). Root k) (sym q) r)
+
+  -- a node that is no binding lies in the slice with its three words
+  pub stands-inside : (o : ℕ × Node) → Stands o → 3 * o .0 + 2 < length ws
+  unfolding nodeAt
+  stands-inside o h = lies-at (inside ws n (o .0)) _ (o .0) refl refl (subst (λ (k : Node). Root k) (sym (h .0)) (h .1))

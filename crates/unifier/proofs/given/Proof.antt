@@ -1,0 +1,23 @@
+use Rattle.unification.specs.Make.{build}
+use borrow.Author.Needs.{needs}
+use Rattle.unifier.proofs.given.Statement.{statement}
+use Rattle.unifier.proofs.given.Tie as tie
+use Rattle.unifier.proofs.given.Reads as reads
+use Rattle.unifier.proofs.given.Lts as lts
+use Rattle.unifier.proofs.push.Reads as push-reads
+
+-- src/lib.rt:150:5
+push-requires : tie.Need-push-requires
+push-requires c κs = search needs
+
+-- src/lib.rt:147:1
+same-length : tie.Need-same-length
+same-length c = search needs
+
+-- src/lib.rt:147:1
+returns : tie.Need-returns
+unfolding build
+returns c = c .before .before .push .ensures
+
+pub given-spec : {M : Type 1} → statement M
+given-spec = tie.close (tie.spec push-requires same-length returns)

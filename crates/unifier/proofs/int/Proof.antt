@@ -1,0 +1,23 @@
+use Rattle.unification.specs.Make.{build}
+use borrow.Author.Needs.{needs}
+use Rattle.unifier.proofs.int.Statement.{statement}
+use Rattle.unifier.proofs.int.Tie as tie
+use Rattle.unifier.proofs.int.Reads as reads
+use Rattle.unifier.proofs.int.Lts as lts
+use Rattle.unifier.proofs.push.Reads as push-reads
+
+-- src/lib.rt:143:5
+push-requires : tie.Need-push-requires
+push-requires c κs = search needs
+
+-- src/lib.rt:140:1
+same-length : tie.Need-same-length
+same-length c = search needs
+
+-- src/lib.rt:140:1
+returns : tie.Need-returns
+unfolding build
+returns c = c .before .before .push .ensures
+
+pub int-spec : {M : Type 1} → statement M
+int-spec = tie.close (tie.spec push-requires same-length returns)

@@ -1,0 +1,31 @@
+use mathlib.Core.Path.{sym, _∙_}
+use borrow.Author.Tests.{lt-ltb, le-ltb}
+use Rattle.unification.specs.Arena.{choose}
+use Rattle.unification.specs.Make.{build, build-power}
+use Rattle.unifier.specs.Answers.{made}
+use borrow.Author.Needs.{needs}
+use Rattle.unifier.proofs.pow.Statement.{statement}
+use Rattle.unifier.proofs.pow.Tie as tie
+use Rattle.unifier.proofs.pow.Reads as reads
+use Rattle.unifier.proofs.pow.Lts as lts
+use Rattle.unifier.proofs.push.Reads as push-reads
+
+-- src/lib.rt:158:9
+push-requires : tie.Need-push-requires
+push-requires c κs = search needs
+
+-- src/lib.rt:158:9
+same-length : tie.Need-same-length
+same-length c = search needs
+
+-- src/lib.rt:158:9
+returns : tie.Need-returns
+returns c = c .before .before .push .ensures ∙ sym (build-power _ _ _ (c .before .before .before .before .if1 .taken))
+
+-- src/lib.rt:154:1
+returns-2 : tie.Need-returns-2
+unfolding build choose made
+returns-2 c = simp (le-ltb _ _ (c .if1 .left))
+
+pub pow-spec : {M : Type 1} → statement M
+pow-spec = tie.close (tie.spec push-requires same-length returns returns-2)

@@ -1,0 +1,388 @@
+// The arena's nodes, and unification over them, on words that the caller lends: three a node.
+// Kinds: 0x40 BOOL, 0x41 ℤ, 0x42 a given set (its name), 0x43 power (a node), 0x44 product (two nodes),
+// 0x4E an unknown, 0x4D an unknown bound to a node. `count` is the number of nodes.
+// Every function takes any words, counts, references and budgets. What each answers is a definition of crate `unification`:
+// `specs/Answers` says how an answer's cases are read as that definition's outcome.
+use types::Name;
+use types::NodeRef;
+ghost use mathlib.Core.Path.{_≡_};
+ghost use Prim.Native.Nat.{_+_, _*_, _<_};
+ghost use lib.ListN.{length};
+ghost use Rattle.meter.specs.Meter.{done};
+ghost use Rattle.types.specs.Ty.{bool, int, given};
+ghost use Rattle.unification.specs.Arena.{nodeAt, free, leaf, power, pair, meet, occurs, solved, assign, unify};
+ghost use Rattle.unification.specs.Good.{Root};
+ghost use Rattle.unification.specs.Make.{makeOf, build, relate};
+ghost use Rattle.unification.specs.Tasks.{arrive, reach, taskOf, takeUp};
+ghost use Rattle.unifier.specs.Answers.{nodeOf, foundOf, Settled, made, arrived, told, taken, settled};
+
+// A node that is no binding: a kind and its two operands.
+pub struct Node {
+    pub kind: u32,
+    pub a: u32,
+    pub b: u32,
+}
+
+// What stands at a reference. `Broken`: no node of the arena, or a kind that is none.
+enum Found {
+    Link(NodeRef),
+    Is(Node),
+    Broken,
+}
+
+// A node was made at a reference; the capacity is used (6); no node can be made here (2).
+pub enum Made {
+    At(NodeRef),
+    Full,
+    Broken,
+}
+
+// Where the bindings from a reference lead, the node there, and the budget left; the budget is spent (7); a broken node (2).
+pub enum Resolved {
+    At(NodeRef, Node, u64),
+    Spent,
+    Broken,
+}
+
+// A question about a reference, with the budget left; the budget is spent (7); a broken node (2).
+pub enum Told {
+    Yes(u64),
+    No(u64),
+    Spent,
+    Broken,
+}
+
+// What a pair of references asks, once both are followed, with the budget left.
+enum Pair {
+    Same(u64),
+    Clash(u64),
+    Bind(NodeRef, NodeRef, u64),
+    One(NodeRef, NodeRef, u64),
+    Two(NodeRef, NodeRef, NodeRef, NodeRef, u64),
+    Spent,
+    Broken,
+}
+
+// How unification ended, with the budget left; the budget is spent (7); a broken node (2).
+pub enum Unified {
+    Done(u64),
+    Mismatch(u64),
+    Circular(u64),
+    Spent,
+    Broken,
+}
+
+// The node at a reference.
+fn node_at(words: &[u32], count: u32, t: NodeRef) -> Found
+    ensures { λ r. ⌜ foundOf r ≡ nodeAt (now (words .entry)) count (t .0) ⌝ }
+    ensures { λ r. ⌜ Settled r ⌝ }
+{
+    let i = t.0;
+    if count <= i {
+        return Found::Broken;
+    }
+    let at = 3 * (i as usize);
+    if words.len() <= at + 2 {
+        return Found::Broken;
+    }
+    let kind = words[at];
+    let a = words[at + 1];
+    match kind {
+        0x4D => Found::Link(NodeRef(a)),
+        0x4E => Found::Is(Node {
+            kind,
+            a,
+            b: words[at + 2],
+        }),
+        0x40..=0x44 => Found::Is(Node {
+            kind,
+            a,
+            b: words[at + 2],
+        }),
+        _ => Found::Broken,
+    }
+}
+
+// Makes the next node of three words.
+fn push(words: &mut [u32], count: u32, kind: u32, a: u32, b: u32) -> Made
+    ensures { λ r. ⌜ made r (now (words .exit)) ≡ makeOf (now (words .entry)) count kind a b ⌝ }
+{
+    let at = 3 * (count as usize);
+    if words.len() < at {
+        return Made::Broken;
+    }
+    if words.len() - at < 3 {
+        return Made::Full;
+    }
+    if count == 0xFFFF_FFFF {
+        return Made::Broken;
+    }
+    words[at] = kind;
+    words[at + 1] = a;
+    words[at + 2] = b;
+    Made::At(NodeRef(count))
+}
+
+// A fresh unknown.
+pub fn fresh(words: &mut [u32], count: u32) -> Made
+    ensures { λ r. ⌜ made r (now (words .exit)) ≡ build (now (words .entry)) count free ⌝ }
+{
+    push(words, count, 0x4E, 0, 0)
+}
+
+// BOOL.
+pub fn boolean(words: &mut [u32], count: u32) -> Made
+    ensures { λ r. ⌜ made r (now (words .exit)) ≡ build (now (words .entry)) count (leaf bool) ⌝ }
+{
+    push(words, count, 0x40, 0, 0)
+}
+
+// ℤ.
+pub fn int(words: &mut [u32], count: u32) -> Made
+    ensures { λ r. ⌜ made r (now (words .exit)) ≡ build (now (words .entry)) count (leaf int) ⌝ }
+{
+    push(words, count, 0x41, 0, 0)
+}
+
+// The given set of a name.
+pub fn given(words: &mut [u32], count: u32, name: Name) -> Made
+    ensures { λ r. ⌜ made r (now (words .exit)) ≡ build (now (words .entry)) count (leaf (given (name .0))) ⌝ }
+{
+    push(words, count, 0x42, name.0, 0)
+}
+
+// The power of a node of the arena.
+pub fn pow(words: &mut [u32], count: u32, base: NodeRef) -> Made
+    ensures { λ r. ⌜ made r (now (words .exit)) ≡ build (now (words .entry)) count (power (base .0)) ⌝ }
+{
+    if base.0 < count {
+        return push(words, count, 0x43, base.0, 0);
+    }
+    Made::Broken
+}
+
+// The product of two nodes of the arena.
+pub fn prod(words: &mut [u32], count: u32, left: NodeRef, right: NodeRef) -> Made
+    ensures { λ r. ⌜ made r (now (words .exit)) ≡ build (now (words .entry)) count (pair (left .0) (right .0)) ⌝ }
+{
+    if left.0 < count {
+        if right.0 < count {
+            return push(words, count, 0x44, left.0, right.0);
+        }
+    }
+    Made::Broken
+}
+
+// The power of the product of two nodes: the product is made first.
+pub fn relation(words: &mut [u32], count: u32, left: NodeRef, right: NodeRef) -> Made
+    ensures { λ r. ⌜ made r (now (words .exit)) ≡ relate (now (words .entry)) count (left .0) (right .0) ⌝ }
+{
+    let product = prod(words, count, left, right);
+    match product {
+        Made::At(t) => pow(words, t.0 + 1, t),
+        Made::Full => Made::Full,
+        Made::Broken => Made::Broken,
+    }
+}
+
+// Follows bindings, one unit each.
+pub fn resolve(words: &[u32], count: u32, t: NodeRef, budget: u64) -> Resolved
+    ensures { λ r. ⌜ arrived r ≡ arrive (now (words .entry)) count (t .0) budget ⌝ }
+{
+    let mut at = t;
+    let mut left = budget;
+    loop {
+        let found = node_at(words, count, at);
+        match found {
+            Found::Is(node) => {
+                return Resolved::At(at, node, left);
+            }
+            Found::Broken => {
+                return Resolved::Broken;
+            }
+            Found::Link(next) => {
+                if left == 0 {
+                    return Resolved::Spent;
+                }
+                left -= 1;
+                at = next;
+            }
+        }
+    }
+}
+
+// Follows bindings, and pays for the node reached.
+fn visit(words: &[u32], count: u32, t: NodeRef, budget: u64) -> Resolved
+    ensures { λ r. ⌜ arrived r ≡ reach (now (words .entry)) count (t .0) budget ⌝ }
+{
+    let found = resolve(words, count, t, budget);
+    match found {
+        Resolved::At(at, node, left) => {
+            if left == 0 {
+                return Resolved::Spent;
+            }
+            Resolved::At(at, node, left - 1)
+        }
+        Resolved::Spent => Resolved::Spent,
+        Resolved::Broken => Resolved::Broken,
+    }
+}
+
+// Whether the unknown `sought` occurs below `t`.
+pub fn occurs(words: &[u32], count: u32, sought: NodeRef, t: NodeRef, budget: u64) -> Told
+    ensures { λ r. ⌜ told r ≡ occurs (now (words .entry)) count (sought .0) (t .0) budget ⌝ }
+{
+    let seen = visit(words, count, t, budget);
+    match seen {
+        Resolved::Spent => Told::Spent,
+        Resolved::Broken => Told::Broken,
+        Resolved::At(at, node, left) => {
+            if at.0 == sought.0 {
+                return Told::Yes(left);
+            }
+            let kind = node.kind;
+            match kind {
+                0x43 => occurs(words, count, sought, NodeRef(node.a), left),
+                0x44 => {
+                    let first = occurs(words, count, sought, NodeRef(node.a), left);
+                    match first {
+                        Told::No(rest) => occurs(words, count, sought, NodeRef(node.b), rest),
+                        Told::Yes(rest) => Told::Yes(rest),
+                        Told::Spent => Told::Spent,
+                        Told::Broken => Told::Broken,
+                    }
+                }
+                _ => Told::No(left),
+            }
+        }
+    }
+}
+
+// What two nodes ask, of which the first stands at `a` and the second at `b`.
+fn compare(a: NodeRef, b: NodeRef, left: u64, x: Node, y: Node) -> Pair
+    requires { ⌜ Root (nodeOf x) ⌝ }
+    ensures { λ r. ⌜ taken r ≡ done (taskOf (a .0) (b .0) (meet (nodeOf x) (nodeOf y))) left ⌝ }
+{
+    if x.kind == 0x4E {
+        return Pair::Bind(a, b, left);
+    }
+    if y.kind == 0x4E {
+        return Pair::Bind(b, a, left);
+    }
+    if x.kind != y.kind {
+        return Pair::Clash(left);
+    }
+    let kind = x.kind;
+    match kind {
+        0x40..=0x41 => Pair::Same(left),
+        0x42 => {
+            if x.a == y.a {
+                Pair::Same(left)
+            } else {
+                Pair::Clash(left)
+            }
+        }
+        0x43 => Pair::One(NodeRef(x.a), NodeRef(y.a), left),
+        0x44 => Pair::Two(NodeRef(x.a), NodeRef(y.a), NodeRef(x.b), NodeRef(y.b), left),
+        _ => Pair::Clash(left),
+    }
+}
+
+// Takes a pair up: pays for it, and follows both references.
+fn take_up(words: &[u32], count: u32, a: NodeRef, b: NodeRef, budget: u64) -> Pair
+    ensures { λ r. ⌜ taken r ≡ takeUp (now (words .entry)) count (a .0) (b .0) budget ⌝ }
+{
+    if budget == 0 {
+        return Pair::Spent;
+    }
+    let first = resolve(words, count, a, budget - 1);
+    match first {
+        Resolved::Spent => Pair::Spent,
+        Resolved::Broken => Pair::Broken,
+        Resolved::At(u, g, rest) => {
+            let second = resolve(words, count, b, rest);
+            match second {
+                Resolved::Spent => Pair::Spent,
+                Resolved::Broken => Pair::Broken,
+                Resolved::At(v, h, left) => {
+                    if u.0 == v.0 {
+                        return Pair::Same(left);
+                    }
+                    compare(u, v, left, g, h)
+                }
+            }
+        }
+    }
+}
+
+// Binds the unknown at `v` to `t`, unless it occurs there.
+fn bind(words: &mut [u32], count: u32, v: NodeRef, t: NodeRef, budget: u64) -> Unified
+    requires { ⌜ 3 * v .0 + 2 < length (now words) ⌝ }
+    ensures { λ r. ⌜ settled r (now (words .exit)) ≡ assign (now (words .entry)) count (v .0) (t .0) budget ⌝ }
+{
+    let found = occurs(words, count, v, t, budget);
+    match found {
+        Told::Yes(left) => Unified::Circular(left),
+        Told::Spent => Unified::Spent,
+        Told::Broken => Unified::Broken,
+        Told::No(left) => {
+            let at = 3 * (v.0 as usize);
+            words[at] = 0x4D;
+            words[at + 1] = t.0;
+            Unified::Done(left)
+        }
+    }
+}
+
+// Makes two references equal, binding unknowns. What was bound stands, however it ends.
+pub fn unify(words: &mut [u32], count: u32, a: NodeRef, b: NodeRef, budget: u64) -> Unified
+    ensures { λ r. ⌜ settled r (now (words .exit)) ≡ unify count (now (words .entry), a .0, b .0) budget ⌝ }
+{
+    let pair = take_up(words, count, a, b, budget);
+    match pair {
+        Pair::Spent => Unified::Spent,
+        Pair::Broken => Unified::Broken,
+        Pair::Same(left) => Unified::Done(left),
+        Pair::Clash(left) => Unified::Mismatch(left),
+        Pair::Bind(v, t, left) => bind(words, count, v, t, left),
+        Pair::One(x, y, left) => unify(words, count, x, y, left),
+        Pair::Two(x, y, z, u, left) => {
+            let first = unify(words, count, x, y, left);
+            match first {
+                Unified::Done(rest) => unify(words, count, z, u, rest),
+                Unified::Mismatch(rest) => Unified::Mismatch(rest),
+                Unified::Circular(rest) => Unified::Circular(rest),
+                Unified::Spent => Unified::Spent,
+                Unified::Broken => Unified::Broken,
+            }
+        }
+    }
+}
+
+// Whether no unknown remains below `t`.
+pub fn solved(words: &[u32], count: u32, t: NodeRef, budget: u64) -> Told
+    ensures { λ r. ⌜ told r ≡ solved (now (words .entry)) count (t .0) budget ⌝ }
+{
+    let seen = visit(words, count, t, budget);
+    match seen {
+        Resolved::Spent => Told::Spent,
+        Resolved::Broken => Told::Broken,
+        Resolved::At(_, node, left) => {
+            let kind = node.kind;
+            match kind {
+                0x4E => Told::No(left),
+                0x43 => solved(words, count, NodeRef(node.a), left),
+                0x44 => {
+                    let first = solved(words, count, NodeRef(node.a), left);
+                    match first {
+                        Told::Yes(rest) => solved(words, count, NodeRef(node.b), rest),
+                        Told::No(rest) => Told::No(rest),
+                        Told::Spent => Told::Spent,
+                        Told::Broken => Told::Broken,
+                    }
+                }
+                _ => Told::Yes(left),
+            }
+        }
+    }
+}
