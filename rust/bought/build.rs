@@ -92,6 +92,8 @@ fn main() {
     }
     fs::write(tree.join("modules.rs"), root).unwrap();
     println!("cargo:rustc-cfg=bought");
+    // For the build scripts of crates that name the bought source's own types.
+    println!("cargo:present=1");
 }
 
 fn copy(from: &Path, to: &Path) {

@@ -595,28 +595,36 @@ mod sides {
 
     // ---- the three questions ----
 
-    pub fn infer(build: Build, formula: &[u8], environment: &[u8], names: u32) -> Result<Answer, Silent> {
-        let mut entries = Reader::new(environment, build, names);
-        let environment = entries.environment()?;
+    /// A formula of the bought checker's own.
+    #[derive(Debug, Clone)]
+    pub enum Built {
+        Expression(Expression),
+        Predicate(Predicate),
+        Assignment(Assignment),
+    }
+
+    pub fn formula(build: Build, formula: &[u8], names: u32) -> Result<Built, Silent> {
         let mut reader = Reader::new(formula, build, names);
-        match formula.first() {
-            Some(0x01..=0x0C) => {
-                let e = reader.expression()?;
-                let e = reader.whole(e)?;
-                Ok(answer(e.type_check(&environment), |slots, typed| slots.expression(typed)))
-            }
-            Some(0x20..=0x29) => {
-                let p = reader.predicate()?;
-                let p = reader.whole(p)?;
-                Ok(answer(p.type_check(&environment), |slots, typed| slots.predicate(typed)))
-            }
-            Some(0x30..=0x32) => {
-                let a = reader.assignment()?;
-                let a = reader.whole(a)?;
-                Ok(answer(a.type_check(&environment), |slots, typed| slots.assignment(typed)))
-            }
-            _ => Err(Silent::Malformed),
-        }
+        let built = match formula.first() {
+            Some(0x01..=0x0C) => Built::Expression(reader.expression()?),
+            Some(0x20..=0x29) => Built::Predicate(reader.predicate()?),
+            Some(0x30..=0x32) => Built::Assignment(reader.assignment()?),
+            _ => return Err(Silent::Malformed),
+        };
+        reader.whole(built)
+    }
+
+    pub fn environment(build: Build, environment: &[u8], names: u32) -> Result<SealedTypeEnvironment, Silent> {
+        Reader::new(environment, build, names).environment()
+    }
+
+    pub fn infer(build: Build, formula: &[u8], environment: &[u8], names: u32) -> Result<Answer, Silent> {
+        let environment = self::environment(build, environment, names)?;
+        Ok(match self::formula(build, formula, names)? {
+            Built::Expression(e) => answer(e.type_check(&environment), |slots, typed| slots.expression(typed)),
+            Built::Predicate(p) => answer(p.type_check(&environment), |slots, typed| slots.predicate(typed)),
+            Built::Assignment(a) => answer(a.type_check(&environment), |slots, typed| slots.assignment(typed)),
+        })
     }
 
     pub fn read_text(text: &[u8], table: &[u8]) -> Result<Option<Vec<u8>>, Silent> {
@@ -658,6 +666,10 @@ mod sides {
         })
     }
 }
+
+/// The bought formula and the bought environment that well-formed bytes stand for.
+#[cfg(bought)]
+pub use sides::{Built, environment, formula};
 
 /// The bought checker's answer to a well-formed formula under a well-formed environment, with so many names.
 pub fn infer(build: Build, formula: &[u8], environment: &[u8], names: u32) -> Result<Answer, Silent> {
