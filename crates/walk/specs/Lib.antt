@@ -11,4 +11,5 @@ pub mod Safe
 pub mod Names
 pub mod Excluded
 pub mod Nodes
+pub mod Readings
 pub mod Verdict

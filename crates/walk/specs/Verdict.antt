@@ -2,7 +2,7 @@
 -- `s` is the arena after the walk's operations were run from an empty one, all of them, within capacity and budget.
 use Prim.Native.Nat.{ℕ, zero, suc, _+_, _*_, _≤_, _<_}
 use mathlib.Core.Path.{_≡_, refl, sym, _∙_, ap, ap₂, subst}
-use mathlib.Core.Logic.{_↔_}
+use mathlib.Core.Logic.{_↔_, inl, inr}
 use mathlib.Core.Bool.{Bool, true, false}
 use mathlib.Core.List.{List, [], _∷_, _++_}
 use native.Mathlib.Omega.{arith}
@@ -16,15 +16,17 @@ use Rattle.unification.specs.Arena.{Words, U, nodeAt, solved}
 use Rattle.unification.specs.Trees.{var, ground, ground-same, ground-differs}
 use Rattle.unification.specs.Good.{Assignment, Good, spelt, extend, extend-admits}
 use Rattle.unification.specs.Readers.{solved-exact}
-use Rattle.unification.specs.Ops.{nodes, Meets, Bench, Admitted, Ready, Judged, clean, hopeless, Ran, In, listed, exec, exec-exact}
+use Rattle.unification.specs.Ops.{nodes, Meets, Bench, Admitted, Ready, Judged, clean, hopeless, Ran, Whence, before, listing, failing, In, listed, exec, exec-exact}
 use Rattle.typing.specs.Rules.{Agrees, Typing}
-use Rattle.typing.specs.Typings.{Some, Same, AtMostOne, One, None, Several, has, lacking, from-list}
+use Rattle.typing.specs.Typings.{excluded-of, Some, Same, AtMostOne, One, None, Several, has, lacking, from-list}
 use Rattle.walk.specs.Writer.{at, find, own, unknown}
 use Rattle.walk.specs.Walk.{name, ascription, walk, walked}
 use Rattle.walk.specs.Tables.{Carries}
 use Rattle.walk.specs.Triple.{slot-types, slot-types-length}
 use Rattle.walk.specs.Names.{met-found, found-met}
 use Rattle.walk.specs.Safe.{safe-formula}
+use Rattle.walk.specs.Excluded.{own-listed}
+use Rattle.walk.specs.Readings.{Asked, several-read}
 use Rattle.walk.specs.Whole.{tame-formula, none-found, typing-met, exactly, found-type, entry-type, slots-read, names-read, met-some}
 
 -- ---- the walk, run from an empty arena
@@ -48,11 +50,11 @@ module _ (Γ : Env) (f : Formula) (cap : ℕ) (ws : Words) (s : Bench) (ran : Ra
   first-admits σ x l = absurd (omega arith)
 
   -- what the arena after the walk admits, and what it asks
-  admits-met : (σ : Assignment) → Meets σ 0 (walked Γ f .ops) → Admitted s σ
+  pub admits-met : (σ : Assignment) → Meets σ 0 (walked Γ f .ops) → Admitted s σ
   unfolding start
   admits-met σ m = ran .takes σ (first-admits σ) m
 
-  met-admitted : s .problems ≡ [] → (σ : Assignment) → Admitted s σ → Meets σ 0 (walked Γ f .ops)
+  pub met-admitted : s .problems ≡ [] → (σ : Assignment) → Admitted s σ → Meets σ 0 (walked Γ f .ops)
   unfolding start
   met-admitted e σ A = go (ran .judged)
     where
@@ -80,6 +82,30 @@ module _ (Γ : Env) (f : Formula) (cap : ℕ) (ws : Words) (s : Bench) (ran : Ra
     where
       no-problem : {ps : List (ℕ × ℕ)} → ps ≡ [] → In z ps → ⊥
       no-problem e i = subst (In z) e i
+
+  pub excluded-listed : (z : ℕ × ℕ) → In z (excluded-of f) → In z (s .problems)
+  excluded-listed z h = ran .told z (subst (In z) (sym (own-listed Γ f)) h)
+
+  -- where the tree excludes nothing, every problem of the walk is a comparison's: 0 or 1
+  pub clash-kinds : excluded-of f ≡ [] → (z : ℕ × ℕ) → In z (s .problems) → z .0 < 2
+  unfolding start
+  clash-kinds e z h = go (ran .whence z h)
+    where
+      go : Whence z [] (listed (walked Γ f .ops)) → z .0 < 2
+      go (before i) = absurd i
+      go (listing i) = absurd (subst (In z) (own-listed Γ f ∙ e) i)
+      go (failing l) = l
+
+  -- E4: where the tree excludes nothing, a problem 0 or 1 is listed by the walk exactly if there is no typing
+  pub clash-none : excluded-of f ≡ [] → ((z : ℕ × ℕ) × In z (s .problems) × (z .0 < 2)) ↔ None Γ f
+  clash-none e = (λ h t. no-problem (h .0) (typings-exist .1 t) (h .1), λ n. some-problem (s .problems) refl n)
+    where
+      no-problem : (z : ℕ × ℕ) {ps : List (ℕ × ℕ)} → ps ≡ [] → In z ps → ⊥
+      no-problem z q i = subst (In z) q i
+
+      some-problem : (ps : List (ℕ × ℕ)) → s .problems ≡ ps → None Γ f → (z : ℕ × ℕ) × In z (s .problems) × (z .0 < 2)
+      some-problem [] q n = absurd (n (typings-exist .0 q))
+      some-problem (z ∷ ps) q n = let i : In z (s .problems) = subst (In z) (sym q) (inl refl) in (z, i, clash-kinds e z i)
 
   -- one type for a reference in all assignments that the arena admits
   abbrev pub Fixed : ℕ → Type 0
@@ -193,7 +219,7 @@ module _ (Γ : Env) (f : Formula) (cap : ℕ) (ws : Words) (s : Bench) (ran : Ra
   pub solved-fixed : (t : ℕ) → t < s .count → (β r : ℕ) (c : Bool) → solved (s .words) (s .count) t β ≡ done c r → (c ≡ true) ↔ Fixed t
   solved-fixed t l β r c e = fixed-cases t l c (exact-done (solved-exact (s .words) (s .count) G t l) β c r e)
 
-  -- ---- demand 3 in three lines
+  -- ---- none, one or several, in three lines
   abbrev pub AllFixed : Type 0
   AllFixed = SlotsFixed (walked Γ f .slots) × NamesFixed
 
@@ -206,9 +232,13 @@ module _ (Γ : Env) (f : Formula) (cap : ℕ) (ws : Words) (s : Bench) (ran : Ra
   pub verdict-several : ((s .problems ≡ []) × (AllFixed → ⊥)) ↔ (Some Γ f × (AtMostOne Γ f → ⊥))
   verdict-several = (λ h. (typings-exist .0 (h .0), λ o. h .1 (one-fixed (h .0) o)), λ h. (typings-exist .1 (h .0), λ a. h .1 (fixed-one a)))
 
-  -- ---- W12: every remaining unknown read as ℤ, or as BOOL: two typings, that differ wherever the test for unknowns says no
+  -- ---- every remaining unknown read as ℤ, or as BOOL: two typings, that differ wherever the test for unknowns says no
   unfoldable pub reading : Ty → Assignment
   reading t = extend (s .count) (nodeAt (s .words) (s .count)) G (λ x. t)
+
+  pub reading-admitted : (t : Ty) → Admitted s (reading t)
+  unfolding reading
+  reading-admitted t = extend-admits (s .count) (nodeAt (s .words) (s .count)) G (λ x. t)
 
   pub reading-typing : s .problems ≡ [] → (t : Ty) → Typing Γ f (slots-read Γ f (reading t)) (names-read Γ f (reading t))
   unfolding reading
@@ -217,3 +247,10 @@ module _ (Γ : Env) (f : Formula) (cap : ℕ) (ws : Words) (s : Bench) (ran : Ra
   pub readings-differ : (x : ℕ) → x < s .count → (β r : ℕ) → solved (s .words) (s .count) x β ≡ done false r → reading (base int) x ≡ reading (base bool) x → ⊥
   unfolding reading
   readings-differ x l β r e = ground-differs (λ y. base int) (λ y. base bool) (λ y q. (let z : _≡_ {A = ℕ} 0 1 = cc in omega arith)) (G .tree x) (sym (exact-done (solved-exact (s .words) (s .count) G x l) β false r e))
+
+  -- E5: a slot or a lacking name that is not solved gives two different typings
+  pub unsolved-several : s .problems ≡ [] → (x : ℕ) → Asked Γ f x → x < s .count → (β r : ℕ) → solved (s .words) (s .count) x β ≡ done false r → Several Γ f
+  unsolved-several e x a l β r q = several-read Γ f (reading (base int)) (reading (base bool)) (meets (base int)) (meets (base bool)) x a (readings-differ x l β r q)
+    where
+      meets : (t : Ty) → Meets (reading t) 0 (walked Γ f .ops)
+      meets t = met-admitted e (reading t) (reading-admitted t)

@@ -219,7 +219,7 @@ module _ (Γ : Env) (τ ρ : ℕ → Ty) (agrees : Agrees Γ ρ) where
       (λ _. complete-pred Γ τ ρ agrees q _ (over ys []) (under Γ τ ρ ds (targets ts) []) (0 + targets ts + decls ds + 0) (subst (λ (i : ℕ). TypedPred Γ τ ρ q (under Γ τ ρ ds (targets ts) []) i) i2 (w .3))
       (λ σ c. seen-under Γ τ ρ σ ds (targets ts) ys [] [] (subst (λ (i : ℕ). Declared τ σ ds i ys) (sym i1) (c .0 .1)) tt)))))
 
--- ---- demand 3, the middle of it
+-- ---- typings and assignments
 -- σ reads τ and ρ: the slots and the names met have these types
 pub record ReadsAs (Γ : Env) (f : Formula) (σ : Assignment) (τ ρ : ℕ → Ty) : Type 0 where
   pub slots : Carries τ 0 (slot-types σ (walked Γ f .slots))
