@@ -7,8 +7,9 @@ use mathlib.Core.Path.{_≡_, refl, sym, _∙_, ap, ap₂, subst}
 use mathlib.Core.Bool.{Bool, true, false}
 use mathlib.Core.List.{List, [], _∷_, _++_}
 use native.Mathlib.Omega.{arith}
+use native.Mathlib.Decide.{decLt}
 use lib.ListN.{length, replicate, length-replicate}
-use Rattle.meter.specs.Meter.{Out, spent, halt, done, Why, broken, full, M, ret, on, _>>=_, Exact, exact-ret, exact-eq, exact-map, exact-bind, exact-done, Halts}
+use Rattle.meter.specs.Meter.{Out, spent, halt, done, Why, broken, full, M, ret, on, _>>=_, Exact, exact-ret, exact-eq, exact-map, exact-bind, exact-done, Ends, exact-ends, Halts}
 use Rattle.types.specs.Ty.{Ty, bool, int, base}
 use Rattle.formula.specs.Environment.{lacks, Env}
 use Rattle.formula.specs.Tree.{Formula}
@@ -166,3 +167,27 @@ module _ (Γ : Env) (f : Formula) where
       let r : Ready capacity arena = record { roomy = omega arith; good = record { tree = λ x. var x; rank = λ x. 0; fits = λ x q. absurd (omega arith) } } in
       let z = exec-full capacity (walked Γ f .ops) arena r (safe .0) (omega arith) (omega arith) in
       (z .0, halts-then (finish Γ (walked Γ f .row) (walked Γ f .slots)) full (z .0) (z .1))
+
+  -- at every capacity and budget: spent, full where the nodes do not fit, or an outcome where they do; never broken
+  pub data Ended (capacity : ℕ) : Out U Outcome → Type 0 where
+    ended-spent : Ended capacity (spent tt)
+    ended-full : capacity < size → Ended capacity (halt full tt)
+    ended-done : size ≤ capacity → (o : Outcome) (left : ℕ) → Concluded o → Ended capacity (done o left)
+
+  full-ends : (capacity budget : ℕ) → capacity < size → (c : ℕ) → Halts (concluded capacity Γ f) full tt c → Dec (budget < c) → Ended capacity (concluded capacity Γ f budget)
+  full-ends capacity budget l c h (yes q) = subst (λ (o : Out U Outcome). Ended capacity o) (sym (h .short budget q .1)) ended-spent
+  full-ends capacity budget l c h (no q) =
+      let p : budget ≡ c + (budget - c) = omega arith in
+      subst (λ (o : Out U Outcome). Ended capacity o) (sym (ap (concluded capacity Γ f) p ∙ h .from (budget - c))) (ended-full l)
+
+  done-ends : (capacity : ℕ) → size ≤ capacity → (o : Out U Outcome) → Ends (λ _. U) Concluded o → Ended capacity o
+  done-ends capacity l (spent e) h = ended-spent
+  done-ends capacity l (halt w e) h = absurd h
+  done-ends capacity l (done o left) h = ended-done l o left h
+
+  pub concluded-ends : (capacity budget : ℕ) → Ended capacity (concluded capacity Γ f budget)
+  concluded-ends capacity budget = at (decLt capacity size)
+    where
+      at : Dec (capacity < size) → Ended capacity (concluded capacity Γ f budget)
+      at (yes l) = let z = concluded-full capacity l in full-ends capacity budget l (z .0) (z .1) (decLt budget (z .0))
+      at (no l) = done-ends capacity (omega arith) (concluded capacity Γ f budget) (exact-ends (concluded-exact capacity (omega arith)) budget)

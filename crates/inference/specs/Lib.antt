@@ -6,3 +6,6 @@ pub mod Cost
 pub mod Rows
 pub mod Conclude
 pub mod Cases
+pub mod Numbers
+pub mod Budget
+pub mod Memory
