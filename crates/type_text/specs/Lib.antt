@@ -1,0 +1,5 @@
+pub mod Page
+pub mod Measure
+pub mod Put
+pub mod Answer
+pub mod Write

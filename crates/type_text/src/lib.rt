@@ -1,0 +1,69 @@
+// Types as text: `write` turns a type record into its canonical text, `read` a text into its record. Both take a name table and a lent page.
+mod page;
+mod writer;
+
+use page::Room;
+use writer::Measured;
+ghost use mathlib.Core.Path.{_≡_};
+ghost use Rattle.type_text.specs.Answer.{answerOf, writeAnswer, writePage};
+
+// The first fault of a record or of a text.
+pub enum Fault {
+    Malformed(usize),
+    Deep(usize),
+}
+
+// What an entry answers: the count of bytes written, or a refusal with its place. Bad: the name table, or a position past the page's end.
+pub enum Answer {
+    Done(usize),
+    Bad,
+    Malformed(usize),
+    Deep(usize),
+    NoRoom,
+}
+
+fn refusal(f: Fault) -> Answer
+    ensures { λ r. ⌜ r ≡ answerOf f ⌝ }
+{
+    match f {
+        Fault::Malformed(p) => Answer::Malformed(p),
+        Fault::Deep(p) => Answer::Deep(p),
+    }
+}
+
+// Writes the text of a type record into the page from a position on.
+pub fn write(bytes: &[u8], table: &[u8], page: &mut [u8], position: usize) -> Answer
+    ensures { λ r. ⌜ r ≡ writeAnswer (now (bytes .entry)) (now (table .entry)) (now (page .entry)) position ⌝ }
+    ensures { λ r. ⌜ now (page .exit) ≡ writePage (now (bytes .entry)) (now (table .entry)) (now (page .entry)) position ⌝ }
+{
+    if !name_table::table_is_good(table) {
+        return Answer::Bad;
+    }
+    if position > page.len() {
+        return Answer::Bad;
+    }
+    let count = name_table::count_names(table);
+    match writer::measure(
+        bytes,
+        table,
+        count,
+        0,
+        65,
+        false,
+        Room::Left(page.len() - position),
+    ) {
+        Measured::Stop(f) => refusal(f),
+        Measured::Type(e, room) => {
+            if e != bytes.len() {
+                return Answer::Malformed(e);
+            }
+            match room {
+                Room::Over => Answer::NoRoom,
+                Room::Left(_) => {
+                    let w = writer::put_at(bytes, table, count, 0, 65, false, page, position);
+                    Answer::Done(w.width)
+                }
+            }
+        }
+    }
+}
