@@ -26,10 +26,12 @@ use Rattle.formula.specs.declared.DeclAt.the-variants as D
 use Rattle.formula.specs.declared.St.{St}
 use Rattle.formula.specs.declared.Fault.{Fault}
 use Rattle.formula.specs.declared.Fault.the-variants.{Malformed, Beyond}
+use Rattle.formula.specs.declared.Form.{Form}
+use Rattle.formula.specs.declared.Form.the-variants.{Good, TooLong, Bad}
 use Rattle.formula.specs.Tree.{Spelling, spells, no-type, Decl, plain, typed, annotated, Expr, free, bound, literal, atomic, extension, truth, binary, associative, unary, quantified, ascribed, explicit, Exprs, none, more, Pred, constant, variable, relational, connective, junction, negation, quantification, simple, multiple, application, Preds, end, also, Target, Formula, expression, predicate, becomes, becomes-in, becomes-such}
 use Rattle.formula.specs.Heads.{pick, place, byteAt, onByte, onWord, fewAt, exprHead, predHead, declHead, targetAt}
 use Rattle.formula.specs.Reader.{Got, ok, bad, andThen, onNext, many, moved, ownOf, declareOf, closing, typeIn, spellingIn}
-use Rattle.formula.specs.Limits.{max-depth, levels}
+use Rattle.formula.specs.Limits.{max-bytes, max-depth, levels}
 
 -- ---- declarations
 
@@ -162,3 +164,22 @@ finish s st a = pick (ltb (st .at .0) (length s)) (bad (Malformed (st .at))) (ok
 
 unfoldable pub whole : ℕ → List ℕ → Got Formula
 whole names s = andThen (formulaAt names s start) λ f st. finish s st f
+
+-- what a stream is: the spelling of a formula, too long, or faulty
+pub data Parsed (A : Type 0) : Type 0 where
+  parsed : A → Parsed A
+  too-long : Parsed A
+  faulty : Fault → Parsed A
+
+unfoldable pub parsedBy : {A : Type 0} → Got A → Parsed A
+parsedBy (ok st a) = parsed a
+parsedBy (bad f) = faulty f
+
+unfoldable pub parseOf : ℕ → List ℕ → Parsed Formula
+parseOf names s = pick (ltb max-bytes (length s)) too-long (parsedBy (whole names s))
+
+-- the tree is forgotten
+unfoldable pub formOf : {A : Type 0} → Parsed A → Form
+formOf (parsed a) = Good
+formOf too-long = TooLong
+formOf (faulty f) = Bad f

@@ -7,7 +7,8 @@ use mathlib.Core.Bool.{Bool, true, false}
 use mathlib.Core.List.{List, [], _∷_}
 use lib.ListN.{length, getD, take, drop, drop-of-length-le}
 use lib.Seq.{drop-cons, take-all}
-use borrow.Author.Tests.{eq-eqb, ne-eqb}
+use lib.Dec.{leb}
+use borrow.Author.Tests.{eq-eqb, ne-eqb, lt-ltb, le-ltb, leb-true}
 use Rattle.types.specs.declared.Name.{Name}
 use Rattle.types.specs.declared.Place.{Place}
 use Rattle.types.specs.declared.TypeEnd.{TypeEnd}
@@ -16,6 +17,10 @@ use Rattle.types.specs.Record.{TypeAt, got, malformed, deep, typeAt}
 use Rattle.types.specs.Code.{endOf}
 use Rattle.formula.specs.declared.Byte.{Byte}
 use Rattle.formula.specs.declared.Byte.the-variants as B
+use Rattle.formula.specs.declared.Word.{Word}
+use Rattle.formula.specs.declared.Word.the-variants as W
+use Rattle.formula.specs.declared.Form.{Form}
+use Rattle.formula.specs.declared.Form.the-variants.{Good, TooLong, Bad}
 use Rattle.formula.specs.declared.ExprHead.{ExprHead}
 use Rattle.formula.specs.declared.ExprHead.the-variants.{Free, Bound, Literal, Atomic, Extension, Truth, Binary, Associative, Unary, Quantified, Ascribed, Explicit}
 use Rattle.formula.specs.declared.PredHead.{PredHead}
@@ -33,10 +38,11 @@ use Rattle.formula.specs.declared.Fault.{Fault}
 use Rattle.formula.specs.declared.Fault.the-variants.{Malformed, Beyond}
 use Rattle.formula.specs.declared.Out.{Out}
 use Rattle.formula.specs.declared.Out.the-variants.{Next, Stop}
-use Rattle.formula.specs.Tree.{Spelling, Decl, Expr, extension, truth, binary, associative, unary, quantified, ascribed, explicit, Exprs, none, more, Pred, relational, connective, junction, negation, quantification, simple, multiple, application, Preds, end, also}
-use Rattle.formula.specs.Heads.{pick, place, byteOf, byteAt, onByte, exprHead, predHead, declHead}
+use Rattle.formula.specs.Tree.{Spelling, Decl, Expr, extension, truth, binary, associative, unary, quantified, ascribed, explicit, Exprs, none, more, Pred, relational, connective, junction, negation, quantification, simple, multiple, application, Preds, end, also, Target, Formula, expression, predicate, becomes, becomes-in, becomes-such}
+use Rattle.formula.specs.Heads.{pick, place, byteOf, byteAt, onByte, fewAt, exprHead, predHead, declHead, targetAt}
 use Rattle.formula.specs.Reader.{Got, ok, bad, andThen, forget, after, onNext, many, moved, ownOf, declareOf, closed, closing, closedOf, typeGot, typeIn, noType, spelledIn, spellingIn}
-use Rattle.formula.specs.Parse.{declBy, declIf, declAt, declsAt, exprBy, predBy, exprIf, predIf, exprDeep, predDeep, exprAt, predAt, exprsAt, predsAt}
+use Rattle.formula.specs.Parse.{declBy, declIf, declAt, declsAt, exprBy, predBy, exprIf, predIf, exprDeep, predDeep, exprAt, predAt, exprsAt, predsAt, targetBy, targetIn, pairIn, targetsAt, pairsAt, becomesBy, becomesAt, rootBy, start, formulaAt, finish, whole, parsedBy, parseOf, formOf}
+use Rattle.formula.specs.Limits.{max-bytes, max-depth, levels}
 
 -- ---- bytes
 
@@ -348,3 +354,132 @@ module _ (names : ℕ) (s : List ℕ) (left n : ℕ) (o : Out) where
   pub preds-next : (r : Out) → r ≡ after o (predAt left names s) → (n ≡ 0 → ⊥) → after r (predsAt left names s (n - 1)) ≡ after o (predsAt left names s n)
   unfolding predsAt
   preds-next r k h = rw k (many-next end also (predAt left names s) n o h)
+
+  pub targets-none : n ≡ 0 → o ≡ after o (targetsAt names s n)
+  unfolding targetsAt
+  targets-none e = many-none [] _∷_ (targetIn names s) n o e
+
+  pub targets-next : (r : Out) → r ≡ after o (targetIn names s) → (n ≡ 0 → ⊥) → after r (targetsAt names s (n - 1)) ≡ after o (targetsAt names s n)
+  unfolding targetsAt
+  targets-next r k h = rw k (many-next [] _∷_ (targetIn names s) n o h)
+
+  pub pairs-none : n ≡ 0 → o ≡ after o (pairsAt left names s n)
+  unfolding pairsAt
+  pairs-none e = many-none [] _∷_ (pairIn left names s) n o e
+
+  pub pairs-next : (r : Out) → r ≡ after o (pairIn left names s) → (n ≡ 0 → ⊥) → after r (pairsAt left names s (n - 1)) ≡ after o (pairsAt left names s n)
+  unfolding pairsAt
+  pairs-next r k h = rw k (many-next [] _∷_ (pairIn left names s) n o h)
+
+-- ---- formulas
+
+module _ (names : ℕ) (s : List ℕ) where
+  pub target-wrong : (st : St) → targetAt names s (st .at) ≡ W.Missing → Stop (Malformed (st .at)) ≡ after (Next st) (targetIn names s)
+  unfolding after forget targetIn targetBy
+  target-wrong st e = rw e
+
+  pub target-own : (st : St) (n : ℕ) (q : Place) → targetAt names s (st .at) ≡ W.Of n q → ownOf q st ≡ after (Next st) (targetIn names s)
+  unfolding after targetIn targetBy
+  target-own st n q e = rw e (forget-own (ownOf q st) _)
+
+  pub pair-both : (left : ℕ) (o : Out) → after (after o (targetIn names s)) (exprAt left names s false) ≡ after o (pairIn left names s)
+  unfolding pairIn
+  pair-both left o = twice o (targetIn names s) (exprAt left names s false) (predAt left names s) (λ t u a. (t, a)) ∙ sym (forget-next o _ _ (λ st. refl))
+
+  -- an assignment's count is at least 1
+  few-some : (p : Place) (n : ℕ) (e : Place) → fewAt s p ≡ B.Of n e → n ≡ 0 → ⊥
+  unfolding fewAt onByte
+  few-some p n e h = go (byteAt s p) refl
+    where
+      on : (m : ℕ) (q : Place) (b : Bool) → leb 1 m ≡ b → pick b (B.Of m q) B.Missing ≡ B.Of n e → n ≡ 0 → ⊥
+      on m q true l k z = let y : m ≡ n = cc in let x = leb-true 1 m l in omega arith
+      on m q false l k z = let y : _≡_ {A = ℕ} 0 1 = cc in omega arith
+
+      go : (b : Byte) → byteAt s p ≡ b → n ≡ 0 → ⊥
+      go B.Missing k z = let x : onByte B.Missing B.Missing (λ m q. pick (leb 1 m) (B.Of m q) B.Missing) ≡ B.Of n e = rw k at h in let y : _≡_ {A = ℕ} 0 1 = cc in omega arith
+      go (B.Of m q) k z = on m q (leb 1 m) refl (rw k at h) z
+
+  pub becomes-wrong : (st : St) (k : ℕ) (p : Place) → fewAt s p ≡ B.Missing → Stop (Malformed (st .at)) ≡ forget (becomesAt names s st k p)
+  unfolding forget becomesAt onByte
+  becomes-wrong st k p e = rw e
+
+  module _ (st : St) (k : ℕ) (p : Place) (n : ℕ) (e : Place) (w : fewAt s p ≡ B.Of n e) where
+    becomes-by : (r : Out) → ((m : ℕ) → n ≡ suc m → r ≡ forget (becomesBy max-depth names s (suc m) e st k)) → r ≡ forget (becomesAt names s st k p)
+    unfolding becomesAt onByte
+    becomes-by r h = rw w (go n refl)
+      where
+        go : (i : ℕ) → n ≡ i → r ≡ forget (becomesBy max-depth names s i e st k)
+        go zero z = absurd (few-some p n e w z)
+        go (suc i) z = h i z
+
+    pub becomes-pairs : k ≡ 0x30 → after (Next (moved e st)) (pairsAt max-depth names s n) ≡ forget (becomesAt names s st k p)
+    unfolding becomesBy onNext
+    becomes-pairs h = becomes-by (after (Next (moved e st)) (pairsAt max-depth names s n)) (λ m z. rw (h, z) (once (Next (moved e st)) (pairsAt max-depth names s (suc m)) (predAt 0 names s) (predAt 0 names s) (becomes (st .at .0))))
+
+    pub becomes-set : k ≡ 0x31 → after (after (Next (moved e st)) (targetsAt names s n)) (exprAt max-depth names s false) ≡ forget (becomesAt names s st k p)
+    unfolding becomesBy onNext
+    becomes-set h = becomes-by (after (after (Next (moved e st)) (targetsAt names s n)) (exprAt max-depth names s false))
+        (λ m z. rw (h, z, ← targets-next names s 0 (suc m) (Next (moved e st)) _ refl (λ x. omega arith), sub-one)
+        (thrice (Next (moved e st)) (targetIn names s) (targetsAt names s m) (exprAt max-depth names s false) (λ t ts a. becomes-in (st .at .0) t ts a)))
+
+    pub becomes-that : k ≡ 0x32 → after (after (after (Next (moved e st)) (targetsAt names s n)) (declsAt names s max-depth n)) (predAt max-depth names s) ≡ forget (becomesAt names s st k p)
+    unfolding becomesBy onNext
+    becomes-that h = becomes-by (after (after (after (Next (moved e st)) (targetsAt names s n)) (declsAt names s max-depth n)) (predAt max-depth names s))
+        (λ m z. rw (h, z) (thrice (Next (moved e st)) (targetsAt names s (suc m)) (declsAt names s max-depth (suc m)) (predAt max-depth names s) (λ ts ds q. becomes-such (st .at .0) ts ds q)))
+
+    pub becomes-other : (k ≡ 0x30 → ⊥) → (k ≡ 0x31 → ⊥) → (k ≡ 0x32 → ⊥) → Stop (Malformed (st .at)) ≡ forget (becomesAt names s st k p)
+    unfolding becomesBy forget
+    becomes-other a b c = becomes-by (Stop (Malformed (st .at))) (λ m z. rw (ne-eqb k 0x30 a, ne-eqb k 0x31 b, ne-eqb k 0x32 c))
+
+  pub formula-none : (st : St) → byteAt s (st .at) ≡ B.Missing → Stop (Malformed (st .at)) ≡ forget (formulaAt names s st)
+  unfolding forget formulaAt onByte
+  formula-none st e = rw e
+
+  module _ (st : St) (k : ℕ) (p : Place) (w : byteAt s (st .at) ≡ B.Of k p) where
+    pub formula-expr : k < 0x20 → after (Next st) (exprAt levels names s false) ≡ forget (formulaAt names s st)
+    unfolding formulaAt onByte rootBy after
+    formula-expr h = rw (w, lt-ltb k 0x20 h) (forget-last (exprAt levels names s false st) expression)
+
+    pub formula-pred : 0x20 ≤ k → k < 0x30 → after (Next st) (predAt levels names s) ≡ forget (formulaAt names s st)
+    unfolding formulaAt onByte rootBy after
+    formula-pred g h = rw (w, le-ltb k 0x20 g, lt-ltb k 0x30 h) (forget-last (predAt levels names s st) predicate)
+
+    pub formula-becomes : 0x30 ≤ k → forget (becomesAt names s st k p) ≡ forget (formulaAt names s st)
+    unfolding formulaAt onByte rootBy
+    formula-becomes h = rw (w, le-ltb k 0x20 (omega arith), le-ltb k 0x30 h)
+
+  -- the whole stream
+  pub parse-long : max-bytes < length s → TooLong ≡ formOf (parseOf names s)
+  unfolding parseOf formOf
+  parse-long h = rw (lt-ltb max-bytes (length s) h)
+
+  parse-by : length s ≤ max-bytes → formOf (parsedBy (whole names s)) ≡ formOf (parseOf names s)
+  unfolding parseOf
+  parse-by h = rw (le-ltb max-bytes (length s) h)
+
+  bad-by : (f : Fault) (g : Got Formula) → forget g ≡ Stop f → Bad f ≡ formOf (parsedBy (andThen g λ x st. finish s st x))
+  unfolding forget andThen parsedBy formOf
+  bad-by f (ok st x) e = let y : _≡_ {A = ℕ} 0 1 = cc in absurd (omega arith)
+  bad-by f (bad x) e = cc
+
+  over-by : (st : St) (g : Got Formula) → forget g ≡ Next st → st .at .0 < length s → Bad (Malformed (st .at)) ≡ formOf (parsedBy (andThen g λ x st. finish s st x))
+  unfolding forget andThen parsedBy formOf finish
+  over-by st (ok t x) e h = let y : t ≡ st = cc in rw (y, lt-ltb (st .at .0) (length s) h)
+  over-by st (bad x) e h = let y : _≡_ {A = ℕ} 0 1 = cc in absurd (omega arith)
+
+  good-by : (st : St) (g : Got Formula) → forget g ≡ Next st → length s ≤ st .at .0 → Good ≡ formOf (parsedBy (andThen g λ x st. finish s st x))
+  unfolding forget andThen parsedBy formOf finish
+  good-by st (ok t x) e h = let y : t ≡ st = cc in rw (y, le-ltb (st .at .0) (length s) h)
+  good-by st (bad x) e h = let y : _≡_ {A = ℕ} 0 1 = cc in absurd (omega arith)
+
+  pub parse-bad : (f : Fault) → length s ≤ max-bytes → forget (formulaAt names s start) ≡ Stop f → Bad f ≡ formOf (parseOf names s)
+  unfolding whole
+  parse-bad f h e = bad-by f (formulaAt names s start) e ∙ parse-by h
+
+  pub parse-over : (st : St) → length s ≤ max-bytes → forget (formulaAt names s start) ≡ Next st → st .at .0 < length s → Bad (Malformed (st .at)) ≡ formOf (parseOf names s)
+  unfolding whole
+  parse-over st h e l = over-by st (formulaAt names s start) e l ∙ parse-by h
+
+  pub parse-good : (st : St) → length s ≤ max-bytes → forget (formulaAt names s start) ≡ Next st → length s ≤ st .at .0 → Good ≡ formOf (parseOf names s)
+  unfolding whole
+  parse-good st h e l = good-by st (formulaAt names s start) e l ∙ parse-by h

@@ -5,8 +5,8 @@ ghost use mathlib.Core.Bool.{Bool, true, false};
 ghost use Prim.Native.Nat.{ℕ, _+_, _*_, _-_, _<_, _≤_};
 ghost use lib.ListN.{length, getD};
 ghost use Rattle.formula.specs.Heads.{byteAt, wordAt, nameAt, opAt, countAt, fewAt, exprBody, exprHead, predBody, predHead, declBody, declHead, targetAt};
-ghost use Rattle.formula.specs.Reader.{ownOf, declareOf, closedOf, moved, typeIn, spellingIn, after};
-ghost use Rattle.formula.specs.Parse.{declAt, declsAt, exprAt, exprsAt, predAt, predsAt, targetIn, targetsAt, pairIn, pairsAt, becomesAt, formulaAt};
+ghost use Rattle.formula.specs.Reader.{ownOf, declareOf, closedOf, moved, typeIn, spellingIn, forget, after};
+ghost use Rattle.formula.specs.Parse.{declAt, declsAt, exprAt, exprsAt, predAt, predsAt, targetIn, targetsAt, pairIn, pairsAt, becomesAt, formulaAt, parseOf, formOf};
 use types::Name;
 use types::Place;
 use types::TypeEnd;
@@ -653,4 +653,138 @@ fn read_preds(s: &[u8], names: u32, left: u32, n: u16, o: Out) -> Out
         i -= 1;
     }
     cur
+}
+
+// ---- formulas
+
+fn read_target(s: &[u8], names: u32, o: Out) -> Out
+    requires { ⌜ length (now s) ≤ 16384 ⌝ }
+    ensures { λ r. ⌜ r ≡ after o (targetIn names (now (s .entry))) ⌝ }
+{
+    match o {
+        Out::Stop(f) => Out::Stop(f),
+        Out::Next(st) => {
+            let at = st.at;
+            match target_at(s, names, at) {
+                Word::Missing => Out::Stop(Fault::Malformed(at)),
+                Word::Of(_, e) => own(e, st),
+            }
+        }
+    }
+}
+
+fn read_targets(s: &[u8], names: u32, n: u8, o: Out) -> Out
+    requires { ⌜ length (now s) ≤ 16384 ⌝ }
+    ensures { λ r. ⌜ r ≡ after o (targetsAt names (now (s .entry)) n) ⌝ }
+{
+    let mut cur = o;
+    let mut i = n;
+    while 0 < i {
+        cur = read_target(s, names, cur);
+        i -= 1;
+    }
+    cur
+}
+
+// A target and its value.
+fn read_pair(s: &[u8], names: u32, left: u32, o: Out) -> Out
+    requires { ⌜ length (now s) ≤ 16384 ⌝ }
+    ensures { λ r. ⌜ r ≡ after o (pairIn left names (now (s .entry))) ⌝ }
+{
+    let t = read_target(s, names, o);
+    read_expr(s, names, false, left, t)
+}
+
+fn read_pairs(s: &[u8], names: u32, left: u32, n: u8, o: Out) -> Out
+    requires { ⌜ length (now s) ≤ 16384 ⌝ }
+    ensures { λ r. ⌜ r ≡ after o (pairsAt left names (now (s .entry)) n) ⌝ }
+{
+    let mut cur = o;
+    let mut i = n;
+    while 0 < i {
+        cur = read_pair(s, names, left, cur);
+        i -= 1;
+    }
+    cur
+}
+
+// An assignment of kind k, whose count stands at p.
+fn read_becomes(s: &[u8], names: u32, k: u8, p: Place, st: St) -> Out
+    requires { ⌜ length (now s) ≤ 16384 ⌝ }
+    ensures { λ r. ⌜ r ≡ forget (becomesAt names (now (s .entry)) st k p) ⌝ }
+{
+    let at = st.at;
+    match few_at(s, p) {
+        Byte::Missing => Out::Stop(Fault::Malformed(at)),
+        Byte::Of(n, e) => {
+            let begin = Out::Next(moved_to(e, st));
+            match k {
+                0x30 => read_pairs(s, names, LEVELS - 1, n, begin),
+                0x31 => {
+                    let ts = read_targets(s, names, n, begin);
+                    read_expr(s, names, false, LEVELS - 1, ts)
+                }
+                0x32 => {
+                    let ts = read_targets(s, names, n, begin);
+                    let ds = read_decls(s, names, LEVELS - 1, n, ts);
+                    read_pred(s, names, LEVELS - 1, ds)
+                }
+                _ => Out::Stop(Fault::Malformed(at)),
+            }
+        }
+    }
+}
+
+// The record at the start, with all that stands below it.
+fn read_formula(s: &[u8], names: u32, st: St) -> Out
+    requires { ⌜ length (now s) ≤ 16384 ⌝ }
+    ensures { λ r. ⌜ r ≡ forget (formulaAt names (now (s .entry)) st) ⌝ }
+{
+    let at = st.at;
+    match byte_at(s, at) {
+        Byte::Missing => Out::Stop(Fault::Malformed(at)),
+        Byte::Of(k, p) => {
+            if k < 0x20 {
+                return read_expr(s, names, false, LEVELS, Out::Next(st));
+            }
+            if k < 0x30 {
+                return read_pred(s, names, LEVELS, Out::Next(st));
+            }
+            read_becomes(s, names, k, p, st)
+        }
+    }
+}
+
+// What the test of a stream answers.
+pub enum Form {
+    Good,
+    TooLong,
+    Bad(Fault),
+}
+
+// Tests whether a stream spells a formula inside the limits; if not, where it first fails.
+pub fn check_formula(s: &[u8], names: u32) -> Form
+    ensures { λ r. ⌜ r ≡ formOf (parseOf names (now (s .entry))) ⌝ }
+{
+    if s.len() > MAX_BYTES {
+        return Form::TooLong;
+    }
+    match read_formula(
+        s,
+        names,
+        St {
+            at: Place(0),
+            slots: 0,
+            opened: 0,
+        },
+    ) {
+        Out::Stop(f) => Form::Bad(f),
+        Out::Next(st) => {
+            let at = st.at;
+            if (at.0 as usize) < s.len() {
+                return Form::Bad(Fault::Malformed(at));
+            }
+            Form::Good
+        }
+    }
 }
