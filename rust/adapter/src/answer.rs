@@ -4,7 +4,7 @@ use bought::formula::{
     Assignment, AssignmentKind, BoundIdentDecl, Expression, ExpressionKind, FormulaFactory, Predicate, PredicateKind,
     ProblemKind, SealedTypeEnvironment, Type, TypeCheckProblem,
 };
-use workbench::{Checker, Slot, Verdict};
+use workbench::{Checker, Names, Refusal};
 
 use crate::question::{Explicit, Formula, Question, Unanswered};
 
@@ -41,23 +41,41 @@ pub trait CheckProved: Formula + Sized {
         checker: &Checker,
     ) -> Result<Checked<Self>, Unanswered> {
         let question = Question::new(self, environment, explicit)?;
-        let answer = checker.infer_bytes(&question.formula, &question.environment, &question.names);
-        match answer.verdict {
-            Verdict::Typed(typing) => {
-                let mut slots = Slots { slots: typing.slots.iter(), factory: self.factory_of() };
+        let answer = checker.ask(&question.formula, &question.environment, question.names.len() as u32);
+        let mut bytes = Bytes { rest: &answer.bytes, names: &question.names };
+        match answer.number {
+            0 => {
+                let mut inferred = Vec::new();
+                while bytes.rest.first() == Some(&0x50) {
+                    bytes.take(1);
+                    let name = bytes.name();
+                    inferred.push((name, bytes.ty()));
+                }
+                let mut slots = Slots { bytes, factory: self.factory_of() };
                 let typed = self.rebuild(&mut slots);
-                assert!(slots.slots.next().is_none(), "a slot for each expression and declaration");
-                let inferred = typing.names.iter().map(|(name, ty)| (name.clone(), back(ty))).collect();
+                assert!(slots.bytes.rest.is_empty(), "a slot for each expression and declaration");
                 Ok(Checked { typed: Some(typed), inferred, problems: Vec::new() })
             }
-            Verdict::Problems(problems) => {
-                let problems = problems
-                    .into_iter()
-                    .map(|problem| TypeCheckProblem { kind: kind(problem.kind), span: question.span(problem.place) })
-                    .collect();
+            1 => {
+                let mut problems = Vec::new();
+                while !bytes.rest.is_empty() {
+                    let number = bytes.take(2)[1];
+                    let span = question.span(bytes.place());
+                    let kind = match number {
+                        0 => ProblemKind::TypesDoNotMatch,
+                        1 => ProblemKind::Circularity,
+                        2 => ProblemKind::UntypedExpression,
+                        3 => ProblemKind::UntypedIdentifier(bytes.clone().name()),
+                        4 => ProblemKind::DanglingBoundIdentifier,
+                        5 => ProblemKind::UncheckableApplication,
+                        _ => panic!("the checker listed problem {number}"),
+                    };
+                    bytes.take(2);
+                    problems.push(TypeCheckProblem { kind, span });
+                }
                 Ok(Checked { typed: None, inferred: Vec::new(), problems })
             }
-            Verdict::Refused(refusal) => Err(Unanswered::Refused(refusal)),
+            number => Err(Unanswered::Refused(Refusal::of_inference(number, answer.place))),
         }
     }
 
@@ -68,24 +86,57 @@ pub trait CheckProved: Formula + Sized {
     fn rebuild(&self, slots: &mut Slots<'_>) -> Self;
 }
 
-fn kind(kind: workbench::ProblemKind) -> ProblemKind {
-    match kind {
-        workbench::ProblemKind::TypesDoNotMatch => ProblemKind::TypesDoNotMatch,
-        workbench::ProblemKind::Circularity => ProblemKind::Circularity,
-        workbench::ProblemKind::UntypedExpression => ProblemKind::UntypedExpression,
-        workbench::ProblemKind::UntypedIdentifier(name) => ProblemKind::UntypedIdentifier(name),
-        workbench::ProblemKind::DanglingBoundIdentifier => ProblemKind::DanglingBoundIdentifier,
-        workbench::ProblemKind::UncheckableApplication => ProblemKind::UncheckableApplication,
-    }
+/// What is left of an answer's bytes. The checker writes whole records, so nothing is ever cut.
+#[derive(Clone)]
+struct Bytes<'a> {
+    rest: &'a [u8],
+    names: &'a Names,
 }
 
-fn back(ty: &workbench::Type) -> Type {
-    match ty {
-        workbench::Type::Bool => Type::Bool,
-        workbench::Type::Int => Type::Int,
-        workbench::Type::Given(name) => Type::given(name.clone()),
-        workbench::Type::Power(base) => Type::pow(back(base)),
-        workbench::Type::Product(left, right) => Type::prod(back(left), back(right)),
+impl<'a> Bytes<'a> {
+    fn take(&mut self, count: usize) -> &'a [u8] {
+        let (taken, rest) = self.rest.split_at(count);
+        self.rest = rest;
+        taken
+    }
+
+    fn place(&mut self) -> usize {
+        u32::from_le_bytes(self.take(4).try_into().expect("four bytes")) as usize
+    }
+
+    fn name(&mut self) -> String {
+        let number = u16::from_le_bytes(self.take(2).try_into().expect("two bytes"));
+        self.names.name(number).expect("the checker writes names of the row").to_owned()
+    }
+
+    fn ty(&mut self) -> Type {
+        match self.take(1)[0] {
+            0x40 => Type::Bool,
+            0x41 => Type::Int,
+            0x42 => Type::given(self.name()),
+            0x43 => Type::pow(self.ty()),
+            0x44 => {
+                let left = self.ty();
+                Type::prod(left, self.ty())
+            }
+            kind => panic!("the checker wrote {kind:02X} where a type is due"),
+        }
+    }
+
+    /// Passes a type.
+    fn pass(&mut self) {
+        let mut due = 1;
+        while due > 0 {
+            match self.take(1)[0] {
+                0x42 => {
+                    self.take(2);
+                    due -= 1;
+                }
+                0x43 => {}
+                0x44 => due += 1,
+                _ => due -= 1,
+            }
+        }
     }
 }
 
@@ -93,19 +144,27 @@ fn back(ty: &workbench::Type) -> Type {
 /// compounds are typed by construction.
 #[doc(hidden)]
 pub struct Slots<'a> {
-    slots: std::slice::Iter<'a, Slot>,
+    bytes: Bytes<'a>,
     factory: FormulaFactory,
 }
 
 impl Slots<'_> {
-    fn next(&mut self) -> &workbench::Type {
-        &self.slots.next().expect("a slot for each expression and declaration").ty
+    /// The next slot's type.
+    fn next(&mut self) -> Type {
+        self.bytes.take(5);
+        self.bytes.ty()
+    }
+
+    /// The next slot, whose type nobody asks for.
+    fn pass(&mut self) {
+        self.bytes.take(5);
+        self.bytes.pass();
     }
 
     fn declarations(&mut self, all: &[BoundIdentDecl]) -> Vec<BoundIdentDecl> {
         all.iter()
             .map(|d| {
-                let ty = back(self.next());
+                let ty = self.next();
                 self.factory.bound_ident_decl(d.name(), d.span(), d.annotation().cloned(), Some(ty))
             })
             .collect()
@@ -117,19 +176,25 @@ impl Slots<'_> {
 
     fn expression(&mut self, e: &Expression) -> Expression {
         let span = e.span();
-        let ty = self.next();
+        let leaf = matches!(
+            e.kind(),
+            ExpressionKind::FreeIdentifier(_) | ExpressionKind::BoundIdentifier(_) | ExpressionKind::Atomic(_)
+        );
+        if !leaf {
+            self.pass();
+        }
         match e.kind() {
             ExpressionKind::FreeIdentifier(name) => {
-                let ty = back(ty);
+                let ty = self.next();
                 self.factory.free_identifier(name, span, Some(ty))
             }
             ExpressionKind::BoundIdentifier(index) => {
-                let ty = back(ty);
+                let ty = self.next();
                 self.factory.bound_identifier(*index, span, Some(ty))
             }
             ExpressionKind::IntegerLiteral(value) => self.factory.integer_literal(value.clone(), span),
             ExpressionKind::Atomic(op) => {
-                let ty = back(ty);
+                let ty = self.next();
                 self.factory.atomic_expression(*op, span, Some(ty))
             }
             ExpressionKind::SetExtension(members) => {

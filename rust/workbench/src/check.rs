@@ -53,7 +53,25 @@ impl Checker {
     /// assert_eq!(answer.steps, 12);
     /// ```
     pub fn infer_bytes(&self, formula: &[u8], environment: &[u8], names: &Names) -> Answer {
-        let mut output = vec![0; self.output.min(self.largest_output)];
+        let answer = self.ask(formula, environment, names.count());
+        let verdict = match answer.number {
+            0 => Verdict::Typed(Typing::take(&answer.bytes, names)),
+            1 => Verdict::Problems(take_problems(&answer.bytes, names)),
+            number => Verdict::Refused(Refusal::of_inference(number, answer.place)),
+        };
+        Answer { verdict, steps: answer.steps }
+    }
+
+    /// The same with a count of names alone; the answer's bytes are not read.
+    ///
+    /// ```
+    /// # use workbench::Checker;
+    /// let answer = Checker::default().ask(&[0x22, 6, 0x01, 0, 0, 0x04, 0], &[], 1);
+    /// assert_eq!((answer.number, answer.steps), (0, 12));
+    /// assert_eq!(answer.bytes, [0x50, 0, 0, 0x41, 0x51, 2, 0, 0, 0, 0x41, 0x51, 5, 0, 0, 0, 0x43, 0x41]);
+    /// ```
+    pub fn ask(&self, formula: &[u8], environment: &[u8], names: u32) -> AnswerBytes {
+        let mut bytes = vec![0; self.output.min(self.largest_output)];
         let mut work = Vec::new();
         if self.capacity != port::CAPACITY {
             // A capacity outside its limits is refused; it is lent no more than the largest needs.
@@ -61,32 +79,32 @@ impl Checker {
         }
         loop {
             let answer = if self.capacity == port::CAPACITY {
-                port::infer(formula, environment, names.count(), self.budget, &mut output)
+                port::infer(formula, environment, names, self.budget, &mut bytes)
             } else {
-                port::infer_in(formula, environment, names.count(), self.capacity, self.budget, &mut output, &mut work)
+                port::infer_in(formula, environment, names, self.capacity, self.budget, &mut bytes, &mut work)
             };
-            if answer.number == 8 && output.len() < self.largest_output {
-                let room = output.len().max(16).saturating_mul(8).min(self.largest_output);
-                output = vec![0; room];
+            if answer.number == 8 && bytes.len() < self.largest_output {
+                let room = bytes.len().max(16).saturating_mul(8).min(self.largest_output);
+                bytes = vec![0; room];
                 continue;
             }
-            let place = answer.place as usize;
-            let bytes = &output[..answer.length as usize];
-            let verdict = match answer.number {
-                0 => Verdict::Typed(Typing::take(bytes, names)),
-                1 => Verdict::Problems(take_problems(bytes, names)),
-                2 => Verdict::Refused(Refusal::OutsideLimits),
-                3 => Verdict::Refused(Refusal::MalformedEnvironment { place }),
-                4 => Verdict::Refused(Refusal::MalformedFormula { place }),
-                5 => Verdict::Refused(Refusal::TooLarge { place }),
-                6 => Verdict::Refused(Refusal::CapacityUsed),
-                7 => Verdict::Refused(Refusal::BudgetSpent),
-                8 => Verdict::Refused(Refusal::OutputFull),
-                number => panic!("the checker answered {number}, which is no number of an inference"),
-            };
-            return Answer { verdict, steps: answer.steps };
+            bytes.truncate(answer.length as usize);
+            return AnswerBytes { number: answer.number, place: answer.place as usize, steps: answer.steps, bytes };
         }
     }
+}
+
+/// What an inference answered, in its own numbers and bytes (`docs/FORMAT.md`).
+#[derive(Debug, Clone, PartialEq, Eq)]
+pub struct AnswerBytes {
+    /// 0 typed, 1 problems, 2 to 8 refused.
+    pub number: u32,
+    /// The place of a refusal.
+    pub place: usize,
+    /// The units that were paid.
+    pub steps: u64,
+    /// The answer's records.
+    pub bytes: Vec<u8>,
 }
 
 /// Infers the types of a formula under an environment, with the default [`Checker`].
@@ -436,6 +454,25 @@ pub enum Refusal {
 }
 
 impl Refusal {
+    /// The refusal of an inference by its number, 2 to 8, and its place.
+    ///
+    /// ```
+    /// # use workbench::Refusal;
+    /// assert_eq!(Refusal::of_inference(4, 5), Refusal::MalformedFormula { place: 5 });
+    /// ```
+    pub fn of_inference(number: u32, place: usize) -> Refusal {
+        match number {
+            2 => Refusal::OutsideLimits,
+            3 => Refusal::MalformedEnvironment { place },
+            4 => Refusal::MalformedFormula { place },
+            5 => Refusal::TooLarge { place },
+            6 => Refusal::CapacityUsed,
+            7 => Refusal::BudgetSpent,
+            8 => Refusal::OutputFull,
+            _ => panic!("{number} is no refusal of an inference"),
+        }
+    }
+
     /// The number that the checker answered.
     ///
     /// ```
