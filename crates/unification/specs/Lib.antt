@@ -13,3 +13,4 @@ pub mod Kinds
 pub mod Tasks
 pub mod Make
 pub mod Frame
+pub mod Put
