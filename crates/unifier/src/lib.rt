@@ -212,7 +212,7 @@ pub fn resolve(words: &[u32], count: u32, t: NodeRef, budget: u64) -> Resolved
 }
 
 // Follows bindings, and pays for the node reached.
-fn visit(words: &[u32], count: u32, t: NodeRef, budget: u64) -> Resolved
+pub fn visit(words: &[u32], count: u32, t: NodeRef, budget: u64) -> Resolved
     ensures { λ r. ⌜ arrived r ≡ reach (now (words .entry)) count (t .0) budget ⌝ }
 {
     let found = resolve(words, count, t, budget);
