@@ -44,7 +44,9 @@ impl fmt::Display for Unanswered {
         match self {
             Unanswered::Extension => f.write_str("the formula has an operator of an extension"),
             Unanswered::TypeConstructor => f.write_str("a type has a constructor of an extension"),
-            Unanswered::TypedTarget(name) => write!(f, "the target {name} has a type that the environment does not give it"),
+            Unanswered::TypedTarget(name) => {
+                write!(f, "the target {name} has a type that the environment does not give it")
+            }
             Unanswered::Refused(refusal) => refusal.fmt(f),
         }
     }
@@ -79,8 +81,7 @@ impl Question {
         environment: &SealedTypeEnvironment,
         explicit: Explicit,
     ) -> Result<Question, Unanswered> {
-        let mut writer =
-            Writer { bytes: Vec::new(), names: Names::new(), spans: Vec::new(), environment, explicit };
+        let mut writer = Writer { bytes: Vec::new(), names: Names::new(), spans: Vec::new(), environment, explicit };
         formula.put(&mut writer)?;
         let Writer { bytes, mut names, spans, .. } = writer;
         // Entries can speak of further names; each is asked for once.
@@ -227,7 +228,9 @@ impl Writer<'_> {
         let ty = e.ty()?;
         let compared = match e.kind() {
             ExpressionKind::FreeIdentifier(_) | ExpressionKind::BoundIdentifier(_) => true,
-            ExpressionKind::Atomic(AtomicOp::EmptySet | AtomicOp::KIdGen | AtomicOp::KPrj1Gen | AtomicOp::KPrj2Gen) => true,
+            ExpressionKind::Atomic(AtomicOp::EmptySet | AtomicOp::KIdGen | AtomicOp::KPrj1Gen | AtomicOp::KPrj2Gen) => {
+                true
+            }
             // These have the one type that they can have, unless someone reached into the node.
             ExpressionKind::IntegerLiteral(_) => self.explicit == Explicit::All && *ty != Type::Int,
             ExpressionKind::Bool(_) => self.explicit == Explicit::All && *ty != Type::Bool,

@@ -21,7 +21,11 @@ mod present {
     use workbench::{Checker, Refusal};
 
     /// Every field as text, spans, types and caches included.
-    fn shown<T: std::fmt::Debug>(typed: &Option<T>, inferred: Vec<(String, Type)>, problems: impl std::fmt::Debug) -> String {
+    fn shown<T: std::fmt::Debug>(
+        typed: &Option<T>,
+        inferred: Vec<(String, Type)>,
+        problems: impl std::fmt::Debug,
+    ) -> String {
         format!("typed {typed:?}\ninferred {inferred:?}\nproblems {problems:?}")
     }
 
@@ -35,7 +39,11 @@ mod present {
     }
 
     /// Both checkers' results, each as text.
-    fn both(formula: &Built, environment: &SealedTypeEnvironment, explicit: Explicit) -> (String, Result<String, Unanswered>) {
+    fn both(
+        formula: &Built,
+        environment: &SealedTypeEnvironment,
+        explicit: Explicit,
+    ) -> (String, Result<String, Unanswered>) {
         let checker = Checker { capacity: 8_192, ..Checker::default() };
         match formula {
             Built::Expression(e) => (
@@ -75,7 +83,11 @@ mod present {
                     Err(Unanswered::Refused(Refusal::TooLarge { .. })) => refused += 1,
                     Err(other) => panic!("{other}: {question}"),
                 }
-                if is_success(&expected) { typed += 1 } else { problems += 1 }
+                if is_success(&expected) {
+                    typed += 1
+                } else {
+                    problems += 1
+                }
                 // With the given types alone: the same, or a clash without its echoes above.
                 if build == Build::Factory {
                     let (_, found) = both(&formula, &environment, Explicit::Given);
@@ -88,7 +100,9 @@ mod present {
                 }
             }
         }
-        eprintln!("{typed} typed, {problems} with problems, {refused} too deep with all types, {clashes} clashes with echoes");
+        eprintln!(
+            "{typed} typed, {problems} with problems, {refused} too deep with all types, {clashes} clashes with echoes"
+        );
         assert!(typed > 2_000 && problems > 2_000 && refused < 100 && clashes > 0);
     }
 

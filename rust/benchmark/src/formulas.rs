@@ -48,7 +48,11 @@ pub fn all() -> Vec<Measured> {
             formula: name("x").is_in(integers()).into(),
             environment: Environment::new(),
         },
-        Measured { title: "the ledger rule", formula: fixed().and(booked("t", "booked")).into(), environment: ledger.clone() },
+        Measured {
+            title: "the ledger rule",
+            formula: fixed().and(booked("t", "booked")).into(),
+            environment: ledger.clone(),
+        },
         Measured {
             title: "100 memberships",
             formula: Predicate::And((0..100).map(|n| numbered("x", n).is_in("PERIOD")).collect()).into(),
@@ -94,7 +98,10 @@ pub fn all() -> Vec<Measured> {
         },
         Measured {
             title: "40 clashes",
-            formula: Predicate::And((0..40).map(|n| numbered("x", n).plus(literal(1)).is_in(numbered("x", n))).collect()).into(),
+            formula: Predicate::And(
+                (0..40).map(|n| numbered("x", n).plus(literal(1)).is_in(numbered("x", n))).collect(),
+            )
+            .into(),
             environment: Environment::new(),
         },
     ]

@@ -4,7 +4,7 @@
 //!     cargo run --offline --profile measure -p benchmark
 //!
 //! Three calls are timed: the bought `type_check` on its own formula; the port's inference at capacity 2,048 on the bytes; and the adapter's
-//! `check_proved`, which takes the bought formula to bytes, asks, and rebuilds the typed formula. A time is the median of samples that are taken in
+//! `check_proved`, which takes the bought formula to bytes, asks, and rebuilds the typed formula. A time is the least of samples that are taken in
 //! turn. `--quick` takes few and short samples, to see that it runs.
 
 #[cfg(bought)]

@@ -11,7 +11,16 @@ fn quickly() {
         assert!(text.is_empty() && String::from_utf8_lossy(&out.stderr).starts_with("skipped: "));
         return;
     }
-    for title in ["case 1", "100 memberships", "chain of 200", "reversed", "products", "60 compositions", "quantified", "partition of 80"] {
+    for title in [
+        "case 1",
+        "100 memberships",
+        "chain of 200",
+        "reversed",
+        "products",
+        "60 compositions",
+        "quantified",
+        "partition of 80",
+    ] {
         assert_eq!(text.lines().filter(|line| line.starts_with('|') && line.contains(title)).count(), 1, "{title}");
     }
     // Without the archive nothing is called a measurement of the port.

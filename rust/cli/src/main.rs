@@ -7,13 +7,16 @@ use std::io::{self, Read, Write};
 use std::process::ExitCode;
 
 use options::{Ask, Options, Source};
-use workbench::{Answer, BACKEND, Checker, Environment, Names, PROVED, Refusal, Verdict, read_type, write_record};
+use workbench::{
+    Answer, BACKEND, Checker, Environment, Formula, Names, PROVED, Refusal, Verdict, read_type, write_record,
+};
 
 /// Exit statuses, by verdict.
 const TYPED: u8 = 0;
 const PROBLEMS: u8 = 1;
 const REFUSED: u8 = 2;
 const USAGE: u8 = 64;
+const OUTPUT: u8 = 74;
 
 const HELP: &str = "\
 typecheck: checks the types of an Event-B formula
@@ -38,11 +41,13 @@ Limits:
     --largest-output N   bytes that an answer may have (16777216)
 
 Printing:
+    --show               the formula first, as far as its bytes tell: # is any integer, ∀ also ∃, ∧ also ∨, ⇒ also ⇔, ⊤ also ⊥
     --slots              the type of every expression and declaration too
     --quiet              nothing; the exit status tells
     --help               this text
 
-Exit status: 0 typed (or a type read or written), 1 problems, 2 refused, 64 a question that cannot be asked.
+Exit status: 0 typed (or a type read or written), 1 problems, 2 refused, 64 a question that cannot be asked, 74 output
+that cannot be written.
 
 Example, x ∈ ℤ:
     typecheck --name x \"22 06 01 0000 04 00\"
@@ -63,8 +68,7 @@ fn main() -> ExitCode {
 /// Asks and prints; the exit status, or why the question cannot be asked.
 fn run(options: &Options) -> Result<u8, String> {
     if options.help {
-        print(HELP)?;
-        return Ok(TYPED);
+        return Ok(print(TYPED, HELP));
     }
     let ask = options.ask.as_ref().ok_or("there is no formula")?;
     let (names, environment) = names(&options.names)?;
@@ -83,7 +87,8 @@ fn run(options: &Options) -> Result<u8, String> {
             };
             // The row has every name of the environment already, so the numbers stay as they were given.
             let environment = environment.bytes(&mut names.clone());
-            said(checker.infer_bytes(&formula, &environment, &names), options.slots)
+            let answer = checker.infer_bytes(&formula, &environment, &names);
+            said(answer, Formula::read(&formula, &names), options)
         }
         Ask::ReadType(text) => match read_type(text, &names) {
             Ok(ty) => {
@@ -98,29 +103,43 @@ fn run(options: &Options) -> Result<u8, String> {
             Err(refusal) => refused(refusal),
         },
     };
-    if !options.quiet {
-        print(&text)?;
-    }
-    Ok(status)
+    Ok(if options.quiet { status } else { print(status, &text) })
 }
 
-/// The exit status and the text of an answer.
-fn said(answer: Answer, slots: bool) -> (u8, String) {
+/// The exit status and the text of an answer; of the formula, what could be read of it.
+fn said(answer: Answer, formula: Option<Formula>, options: &Options) -> (u8, String) {
+    let shown = match &formula {
+        Some(formula) if options.show => format!("{formula}\n"),
+        _ => String::new(),
+    };
     let steps = if answer.steps == 1 { "1 step".to_owned() } else { format!("{} steps", answer.steps) };
-    let text = if slots { format!("{answer:#}\n") } else { format!("{answer}\n") };
-    match answer.verdict {
-        Verdict::Typed(_) => (TYPED, text.replacen("typed", &format!("typed, in {steps}"), 1)),
-        Verdict::Problems(_) => (PROBLEMS, text.replacen("not typed", &format!("not typed, in {steps}"), 1)),
-        Verdict::Refused(refusal) => refused(refusal),
-    }
+    let (status, text) = match &answer.verdict {
+        Verdict::Typed(_) => {
+            let text = if options.slots { format!("{answer:#}\n") } else { format!("{answer}\n") };
+            (TYPED, text.replacen("typed", &format!("typed, in {steps}"), 1))
+        }
+        Verdict::Problems(_) => {
+            let text = formula.map_or_else(|| answer.to_string(), |formula| answer.explain(&formula)) + "\n";
+            (PROBLEMS, text.replacen("not typed", &format!("not typed, in {steps}"), 1))
+        }
+        Verdict::Refused(refusal) => refused(*refusal),
+    };
+    (status, shown + &text)
 }
 
 fn refused(refusal: Refusal) -> (u8, String) {
     (REFUSED, format!("{refusal} (number {})\n", refusal.number()))
 }
 
-fn print(text: &str) -> Result<(), String> {
-    io::stdout().write_all(text.as_bytes()).map_err(|e| format!("standard output: {e}"))
+/// Prints, and hands the status on if that went well.
+fn print(status: u8, text: &str) -> u8 {
+    match io::stdout().write_all(text.as_bytes()) {
+        Ok(()) => status,
+        Err(error) => {
+            let _ = writeln!(io::stderr(), "typecheck: standard output: {error}");
+            OUTPUT
+        }
+    }
 }
 
 /// The names and the environment of all lines, in the order in which they were given.
@@ -154,12 +173,8 @@ fn names(given: &[options::Lines]) -> Result<(Names, Environment), String> {
 fn bytes(source: &Source) -> Result<Vec<u8>, String> {
     let read = |path: &std::path::Path| {
         let mut bytes = Vec::new();
-        if path.as_os_str() == "-" {
-            io::stdin().read_to_end(&mut bytes).map(|_| bytes)
-        } else {
-            fs::read(path)
-        }
-        .map_err(|e| format!("{}: {e}", path.display()))
+        if path.as_os_str() == "-" { io::stdin().read_to_end(&mut bytes).map(|_| bytes) } else { fs::read(path) }
+            .map_err(|e| format!("{}: {e}", path.display()))
     };
     match source {
         Source::Hex(text) => hexadecimal(text),

@@ -36,6 +36,7 @@ pub struct Options {
     pub budget: Option<u64>,
     pub capacity: Option<u32>,
     pub largest_output: Option<usize>,
+    pub show: bool,
     pub slots: bool,
     pub quiet: bool,
     pub help: bool,
@@ -66,18 +67,20 @@ impl Options {
                 None => (option, None),
             };
             let named = format!("--{option}");
-            if let "slots" | "quiet" | "help" = option {
+            if let "show" | "slots" | "quiet" | "help" = option {
                 if within.is_some() {
                     return Err(format!("{named} takes no value"));
                 }
                 match option {
+                    "show" => options.show = true,
                     "slots" => options.slots = true,
                     "quiet" => options.quiet = true,
                     _ => options.help = true,
                 }
                 continue;
             }
-            let mut value = || within.clone().or_else(|| arguments.next()).ok_or_else(|| format!("{named} wants a value"));
+            let mut value =
+                || within.clone().or_else(|| arguments.next()).ok_or_else(|| format!("{named} wants a value"));
             match option {
                 "file" => options.ask(Ask::Formula(Source::HexFile(value()?.into())))?,
                 "bytes" => options.ask(Ask::Formula(Source::BytesFile(value()?.into())))?,

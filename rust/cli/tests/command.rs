@@ -25,7 +25,11 @@ fn run_with(arguments: &[&str], input: &[u8]) -> Ran {
     let out = child.wait_with_output().unwrap();
     let errors = String::from_utf8(out.stderr).unwrap();
     let warned = errors.contains("the proved archive is not built");
-    let errors: String = errors.lines().filter(|line| !line.contains("warning: the proved archive is not built")).map(|line| format!("{line}\n")).collect();
+    let errors: String = errors
+        .lines()
+        .filter(|line| !line.contains("warning: the proved archive is not built"))
+        .map(|line| format!("{line}\n"))
+        .collect();
     assert!(!warned || !workbench::PROVED, "a warning without need");
     Ran { status: out.status.code().unwrap(), output: String::from_utf8(out.stdout).unwrap(), errors }
 }
@@ -60,7 +64,7 @@ fn the_ledger() {
 
     let wrong = ask("per-transaction.hex");
     assert_eq!(wrong.status, 1);
-    assert_eq!(wrong.output.lines().skip(1).collect::<Vec<_>>(), ["types do not match at byte 49"]);
+    assert_eq!(wrong.output.lines().skip(1).collect::<Vec<_>>(), ["types do not match at byte 49: rounding(v1)"]);
 
     let open = ask("ambiguous.hex");
     assert_eq!(open.status, 1);
@@ -84,7 +88,8 @@ fn the_ledgers_bytes() {
         let booked = name("booked").of("t").equals(name("amount").of("t").plus(rounding_of_t));
         fixed.and(for_all(["t"], name("t").is_in("TRANSACTION").implies(booked)))
     };
-    let open = for_all(["d"], name("d").is_in("DESIGNER").implies(name("advance").of("d").equals(name("settled").of("d"))));
+    let open =
+        for_all(["d"], name("d").is_in("DESIGNER").implies(name("advance").of("d").equals(name("settled").of("d"))));
     for (file, formula) in [
         ("per-period.hex", booked_with(name("rounding").of(name("period").of("t")))),
         ("per-transaction.hex", booked_with(name("rounding").of("t"))),
@@ -104,12 +109,14 @@ fn verdicts() {
     says(&["--name", "x", CASE_1], 0, "typed, in 12 steps\nx : ℤ\n");
     says(&["--name=x", "--slots", CASE_1], 0, "typed, in 12 steps\nx : ℤ\nbyte 2 : ℤ\nbyte 5 : ℙ(ℤ)\n");
     says(&["--name", "x : ℤ", "2206010000 0400"], 0, "typed, in 8 steps\n");
-    says(&["--name", "x : BOOL", CASE_1], 1, "not typed, in 5 steps\ntypes do not match at byte 0\n");
+    says(&["--name", "x : BOOL", CASE_1], 1, "not typed, in 5 steps\ntypes do not match at byte 0: x ∈ ℤ\n");
     says(&["20"], 0, "typed, in 1 step\n");
+    says(&["--show", "--name", "x", CASE_1], 0, "x ∈ ℤ\ntyped, in 12 steps\nx : ℤ\n");
+    says(&["--show", "--name", "x", "22 06 01 0000"], 2, "refused: the formula is malformed at byte 5 (number 4)\n");
     says(&["--quiet", "20"], 0, "");
     says(&["--quiet", "02 0000"], 1, "");
     says(&["--quiet", "05 0000"], 2, "");
-    says(&["02 0000"], 1, "not typed, in 1 step\na bound index has no declaration at byte 0\n");
+    says(&["02 0000"], 1, "not typed, in 1 step\na bound index has no declaration at byte 0: bound 0\n");
 }
 
 #[test]
@@ -119,8 +126,16 @@ fn refusals() {
     says(&[""], 2, "refused: the formula is malformed at byte 0 (number 4)\n");
     says(&["--name", "x", "--budget", "11", CASE_1], 2, "refused: the budget is spent (number 7)\n");
     says(&["--name", "x", "--capacity", "3", CASE_1], 2, "refused: the capacity is used (number 6)\n");
-    says(&["--name", "x", "--largest-output", "16", CASE_1], 2, "refused: the answer is longer than the largest output (number 8)\n");
-    says(&["--name", "x", "--budget", "12", "--capacity=4", "--largest-output=17", CASE_1], 0, "typed, in 12 steps\nx : ℤ\n");
+    says(
+        &["--name", "x", "--largest-output", "16", CASE_1],
+        2,
+        "refused: the answer is longer than the largest output (number 8)\n",
+    );
+    says(
+        &["--name", "x", "--budget", "12", "--capacity=4", "--largest-output=17", CASE_1],
+        0,
+        "typed, in 12 steps\nx : ℤ\n",
+    );
     let ran = run(&["--capacity", "32,769", "20"]);
     assert!(ran.status == 2 && ran.output.starts_with("refused: a size is outside its limits"), "{}", ran.output);
     let deep = "25".repeat(65) + "20";
@@ -149,7 +164,11 @@ fn files_and_standard_input() {
     let ran = run_with(&["--names", names, "--bytes", "-"], &[0x22, 6, 0x01, 0, 0, 0x04, 0]);
     assert_eq!((ran.status, ran.output.as_str()), (0, "typed, in 12 steps\nx : ℤ\n"));
     // Names keep the order in which they are given.
-    says(&["--name", "y : BOOL", "--names", names, "--name", "z : ℤ", "22 00 01 0100 01 0200"], 0, "typed, in 10 steps\nx : ℤ\n");
+    says(
+        &["--name", "y : BOOL", "--names", names, "--name", "z : ℤ", "22 00 01 0100 01 0200"],
+        0,
+        "typed, in 10 steps\nx : ℤ\n",
+    );
 }
 
 #[test]
@@ -171,16 +190,48 @@ fn questions_that_cannot_be_asked() {
         &["--name", "x : ℙ(WEEK)", "20"],
         "--name \"x : ℙ(WEEK)\": the type of x: refused: the text is malformed at byte 4, at \"WEEK)\"",
     );
-    complains(&["--names", "names.txt", "--name", "period", "20"], "--name \"period\": the name period stands there a second time");
+    complains(
+        &["--names", "names.txt", "--name", "period", "20"],
+        "--name \"period\": the name period stands there a second time",
+    );
     let ran = run(&["--names", "per-period.hex", "20"]);
-    assert!(ran.status == 64 && ran.errors.starts_with("typecheck: per-period.hex, line 2: \"24 0200\" is no name"), "{}", ran.errors);
+    assert!(
+        ran.status == 64 && ran.errors.starts_with("typecheck: per-period.hex, line 2: \"24 0200\" is no name"),
+        "{}",
+        ran.errors
+    );
+}
+
+/// A full device takes no output.
+#[cfg(target_os = "linux")]
+#[test]
+fn output_that_cannot_be_written() {
+    let full = std::fs::OpenOptions::new().write(true).open("/dev/full").unwrap();
+    let out =
+        Command::new(env!("CARGO_BIN_EXE_typecheck")).arg("20").stdout(full).stderr(Stdio::piped()).output().unwrap();
+    assert_eq!(out.status.code(), Some(74));
+    assert!(String::from_utf8(out.stderr).unwrap().contains("typecheck: standard output: "));
 }
 
 #[test]
 fn help() {
     let ran = run(&["--help"]);
     assert_eq!((ran.status, ran.errors.as_str()), (0, ""));
-    for option in ["--file", "--bytes", "--read-type", "--write-type", "--name", "--names", "--budget", "--capacity", "--largest-output", "--slots", "--quiet", "--help"] {
+    for option in [
+        "--file",
+        "--bytes",
+        "--read-type",
+        "--write-type",
+        "--name",
+        "--names",
+        "--budget",
+        "--capacity",
+        "--largest-output",
+        "--show",
+        "--slots",
+        "--quiet",
+        "--help",
+    ] {
         assert!(ran.output.contains(option), "{option}");
     }
     assert!(ran.output.contains("Exit status: 0 typed"));

@@ -6,7 +6,10 @@
 //! Numbers, places and lengths are those of `docs/FORMAT.md`; nothing here judges them. The calls into the archive are all in one
 //! file, and it has the only `unsafe` of the Rust side.
 
+#![deny(unsafe_code)]
+
 #[cfg(not(no_archive))]
+#[allow(unsafe_code)]
 mod archive;
 #[cfg(not(no_archive))]
 use archive as side;

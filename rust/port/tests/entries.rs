@@ -95,7 +95,16 @@ fn inference_as_the_rules_have_it() {
     ];
     for formula in formulas.map(hex) {
         for environment in ["", "50 0000 41", "50 0000 43 42 0000", "50 0000", "50 0000 41 50 0000 41"].map(hex) {
-            for (capacity, budget) in [(CAPACITY, u64::MAX), (3, u64::MAX), (4, 11), (4, 0), (CAPACITY, 11), (32_768, 12), (0, 1), (32_769, 1)] {
+            for (capacity, budget) in [
+                (CAPACITY, u64::MAX),
+                (3, u64::MAX),
+                (4, 11),
+                (4, 0),
+                (CAPACITY, 11),
+                (32_768, 12),
+                (0, 1),
+                (32_769, 1),
+            ] {
                 for room in [0, 7, 8, 17, 100] {
                     both(&formula, &environment, 1, capacity, budget, room, work_words(capacity) as usize + 3);
                 }
@@ -119,7 +128,11 @@ fn text_as_the_rules_have_it() {
                 let (mut page, mut expected_page) = (vec![0xAA; room], vec![0xAA; room]);
                 let answer = read_text(text.as_bytes(), table, &mut page);
                 let expected = reference::text::read_text(text.as_bytes(), table, &mut expected_page);
-                assert_eq!((answer.number, answer.place, answer.length), (expected.number, expected.place, expected.length), "{text}");
+                assert_eq!(
+                    (answer.number, answer.place, answer.length),
+                    (expected.number, expected.place, expected.length),
+                    "{text}"
+                );
                 assert!(page == expected_page && answer.steps == 0, "{text}");
                 if answer.number == 0 {
                     let record = &page[..answer.length as usize];

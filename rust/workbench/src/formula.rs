@@ -217,8 +217,8 @@ pub enum Expression {
     Name(String),
     /// A bound name by its index: 0 is the last declared.
     Bound(u16),
-    /// An integer literal. Its value does not matter to its type.
-    Literal(i64),
+    /// An integer literal. Its value, if it is known, does not matter to its type.
+    Literal(Option<i64>),
     /// An expression without parts.
     Atom(Atom),
     /// A set by its members.
@@ -323,7 +323,7 @@ impl From<&str> for Expression {
 
 impl From<i64> for Expression {
     fn from(value: i64) -> Expression {
-        Expression::Literal(value)
+        literal(value)
     }
 }
 
@@ -348,7 +348,7 @@ pub fn name(name: impl Into<String>) -> Expression {
 
 /// An integer literal.
 pub fn literal(value: i64) -> Expression {
-    Expression::Literal(value)
+    Expression::Literal(Some(value))
 }
 
 /// ℤ.

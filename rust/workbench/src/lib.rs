@@ -34,6 +34,7 @@ mod check;
 mod environment;
 mod formula;
 mod print;
+mod read;
 mod types;
 
 pub use check::*;

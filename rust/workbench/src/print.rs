@@ -3,8 +3,8 @@
 use std::fmt::{self, Display, Formatter};
 
 use crate::formula::{
-    Assignment, BinaryOperator, Declaration, DeclaredType, Expression, Formula, Predicate, QuantifiedOperator, Spelling,
-    UnaryOperator,
+    Assignment, BinaryOperator, Declaration, DeclaredType, Expression, Formula, Predicate, QuantifiedOperator,
+    Spelling, UnaryOperator,
 };
 
 /// Writes the parts with a separator between them.
@@ -30,7 +30,7 @@ impl Display for Operand<'_> {
             Expression::Quantified(operator, ..) => *operator == QuantifiedOperator::Comprehension,
             Expression::Associative(..) | Expression::Ascription(..) => false,
             Expression::Typed(_, inner) => return Operand(inner).fmt(f),
-            Expression::Literal(value) => *value >= 0,
+            Expression::Literal(value) => value.is_none_or(|value| value >= 0),
             _ => true,
         };
         if closed { write!(f, "{e}") } else { write!(f, "({e})") }
@@ -62,8 +62,9 @@ impl Display for Expression {
         match self {
             Expression::Name(name) => f.write_str(name),
             Expression::Bound(index) => write!(f, "bound {index}"),
-            Expression::Literal(value) if *value < 0 => write!(f, "−{}", value.unsigned_abs()),
-            Expression::Literal(value) => value.fmt(f),
+            Expression::Literal(None) => f.write_str("#"),
+            Expression::Literal(Some(value)) if *value < 0 => write!(f, "−{}", value.unsigned_abs()),
+            Expression::Literal(Some(value)) => value.fmt(f),
             Expression::Atom(atom) => f.write_str(atom.symbol()),
             Expression::Set(members) => {
                 f.write_str("{")?;

@@ -18,7 +18,8 @@ fn the_auditors_table() {
     let answer = infer(&case_1, &nothing());
     assert_eq!(format!("{answer:#}"), "typed\nx : ℤ\nbyte 2 : ℤ\nbyte 5 : ℙ(ℤ)");
     assert_eq!(answer.steps, 12);
-    let asked = |capacity, budget| Checker { capacity, budget, ..Checker::default() }.infer(&case_1, &nothing()).verdict;
+    let asked =
+        |capacity, budget| Checker { capacity, budget, ..Checker::default() }.infer(&case_1, &nothing()).verdict;
     assert_eq!(asked(4, 12), answer.verdict);
     assert_eq!(asked(3, 12), Verdict::Refused(Refusal::CapacityUsed));
     assert_eq!(asked(4, 11), Verdict::Refused(Refusal::BudgetSpent));
@@ -70,7 +71,17 @@ fn a_part_is_found_by_its_place() {
     let parts: Vec<(usize, &str)> = parts.iter().map(|(place, text)| (*place, text.as_str())).collect();
     assert_eq!(
         parts,
-        [(0, "∀t·f(t) + 1 = t"), (2, "t"), (3, "f(t) + 1 = t"), (5, "f(t) + 1"), (9, "f(t)"), (11, "f"), (14, "t"), (17, "1"), (20, "t")]
+        [
+            (0, "∀t·f(t) + 1 = t"),
+            (2, "t"),
+            (3, "f(t) + 1 = t"),
+            (5, "f(t) + 1"),
+            (9, "f(t)"),
+            (11, "f"),
+            (14, "t"),
+            (17, "1"),
+            (20, "t")
+        ]
     );
     // Every slot of a typing is such a part.
     let answer = infer(&rule, &nothing());
@@ -88,9 +99,7 @@ fn names_are_bound_where_they_are_declared() {
     // x is index 1 inside, y 0, z 3.
     assert_eq!(
         bytes,
-        [
-            0x26, 2, 0x10, 0x10, 0x26, 2, 0x10, 0x10, 0x24, 2, 0, 0x22, 0, 2, 1, 0, 2, 3, 0, 0x22, 0, 2, 0, 0, 2, 1, 0
-        ]
+        [0x26, 2, 0x10, 0x10, 0x26, 2, 0x10, 0x10, 0x24, 2, 0, 0x22, 0, 2, 1, 0, 2, 3, 0, 0x22, 0, 2, 0, 0, 2, 1, 0]
     );
     assert!(names.is_empty());
     // After its binder a name is free again.
@@ -146,7 +155,8 @@ fn refusals() {
 #[test]
 fn the_output_grows_up_to_its_bound() {
     // x0 = x1 ↦ x1, x1 = x2 ↦ x2, ..: x0's type has 2¹² leaves.
-    let equal = |n: usize| name(format!("x{n}")).equals(name(format!("x{}", n + 1)).maps_to(name(format!("x{}", n + 1))));
+    let equal =
+        |n: usize| name(format!("x{n}")).equals(name(format!("x{}", n + 1)).maps_to(name(format!("x{}", n + 1))));
     let mut all: Vec<Predicate> = (0..12).map(equal).collect();
     all.push(name("x12").is_in(integers()));
     let formula = Formula::from(Predicate::And(all));
