@@ -27,7 +27,7 @@
 //! - [`infer`], [`read_type`], [`write_type`]; [`Checker`] for other limits.
 //! - [`Answer`]: the typing, the problems or the refusal.
 //!
-//! The judgement is the proved archive's ([`port`](port)); this crate only spells bytes and reads them back. Where the archive was
+//! The judgement is the proved archive's ([`port`]); this crate only spells bytes and reads them back. Where the archive was
 //! not built the reference reading answers, which is not proved; [`BACKEND`] says which.
 
 mod check;
