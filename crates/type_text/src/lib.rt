@@ -1,11 +1,14 @@
 // Types as text: `write` turns a type record into its canonical text, `read` a text into its record. Both take a name table and a lent page.
 mod page;
+mod reader;
 mod writer;
 
 use page::Room;
+use reader::Cursor;
+use reader::Scanned;
 use writer::Measured;
 ghost use mathlib.Core.Path.{_≡_};
-ghost use Rattle.type_text.specs.Answer.{answerOf, writeAnswer, writePage};
+ghost use Rattle.type_text.specs.Answer.{answerOf, writeAnswer, writePage, readAnswer, readPage};
 
 // The first fault of a record or of a text.
 pub enum Fault {
@@ -61,6 +64,35 @@ pub fn write(bytes: &[u8], table: &[u8], page: &mut [u8], position: usize) -> An
                 Room::Over => Answer::NoRoom,
                 Room::Left(_) => {
                     let w = writer::put_at(bytes, table, count, 0, 65, false, page, position);
+                    Answer::Done(w.width)
+                }
+            }
+        }
+    }
+}
+
+// Reads a type's text and writes its record from the page's start.
+pub fn read(text: &[u8], table: &[u8], page: &mut [u8]) -> Answer
+    ensures { λ r. ⌜ r ≡ readAnswer (now (text .entry)) (now (table .entry)) (now (page .entry)) ⌝ }
+    ensures { λ r. ⌜ now (page .exit) ≡ readPage (now (text .entry)) (now (table .entry)) (now (page .entry)) ⌝ }
+{
+    if !name_table::table_is_good(table) {
+        return Answer::Bad;
+    }
+    let c = Cursor::new();
+    match reader::scan_product(text, table, c, Room::Left(page.len())) {
+        Scanned::Stop(f) => refusal(f),
+        Scanned::Type(e, d, room) => {
+            if e != text.len() {
+                return Answer::Malformed(e);
+            }
+            if d > 64 {
+                return Answer::Deep(0);
+            }
+            match room {
+                Room::Over => Answer::NoRoom,
+                Room::Left(_) => {
+                    let w = reader::lay_product(text, table, c, page);
                     Answer::Done(w.width)
                 }
             }
