@@ -98,7 +98,7 @@ slots-metered [] entries ss s = metered-bind (ask-metered (s .words) (s .count) 
 
 pub finish-metered : (Γ : Env) (row : Row) (ss : List (ℕ × ℕ)) (s : Bench) → Metered (finish Γ row ss s)
 unfolding finish
-finish-metered Γ row ss s = metered-bind (ask-metered (s .words) (s .count) (names Γ row)) λ f. slots-metered (walkProblems (s .problems) ++ f .problems) (f .types) ss s
+finish-metered Γ row ss s = metered-bind (ask-metered (s .words) (s .count) (names Γ row)) λ f. slots-metered _ _ ss s
 
 pub concluded-metered : (capacity : ℕ) (Γ : Env) (f : Formula) → Metered (concluded capacity Γ f)
 unfolding concluded
