@@ -5,4 +5,7 @@ pub mod Limits
 pub mod Heads
 pub mod Reader
 pub mod Parse
+pub mod EnvParse
+pub mod EnvTold
 pub mod Steps
+pub mod EnvSteps

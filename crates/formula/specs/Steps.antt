@@ -119,11 +119,12 @@ type-out (got t e) st = refl
 type-out (malformed p) st = refl
 type-out (deep p) st = refl
 
-pub type-in : (names : ℕ) (s : List ℕ) (left : ℕ) (st : St) → length s ≤ 16384 → after (Next st) (typeIn names s left) ≡ typeOut (endOf (typeAt left names (take 4294967295 s) (st .at .0))) st
+pub type-short : (names : ℕ) (s : List ℕ) (left p : ℕ) → length s ≤ 16384 → endOf (typeAt left names (take 4294967295 s) p) ≡ endOf (typeAt left names s p)
+type-short names s left p h = ap (λ (l : List ℕ). endOf (typeAt left names l p)) (take-all 4294967295 s (omega arith))
+
+pub type-in : (names : ℕ) (s : List ℕ) (left : ℕ) (st : St) → after (Next st) (typeIn names s left) ≡ typeOut (endOf (typeAt left names s (st .at .0))) st
 unfolding after typeIn
-type-in names s left st h =
-    let e : take 4294967295 s ≡ s = take-all 4294967295 s (omega arith) in
-    rw e (sym (type-out (typeAt left names s (st .at .0)) st))
+type-in names s left st = sym (type-out (typeAt left names s (st .at .0)) st)
 
 module _ (names : ℕ) (s : List ℕ) (left : ℕ) (st : St) where
   spelled : after (Next st) (typeIn names s left) ≡ forget (spelledIn names s left st)

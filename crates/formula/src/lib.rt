@@ -4,9 +4,14 @@ ghost use mathlib.Core.Path.{_≡_};
 ghost use mathlib.Core.Bool.{Bool, true, false};
 ghost use Prim.Native.Nat.{ℕ, _+_, _*_, _-_, _<_, _≤_};
 ghost use lib.ListN.{length, getD};
+ghost use lib.Dec.{leb};
+ghost use Rattle.types.specs.Record.{typeAt};
+ghost use Rattle.types.specs.Code.{endOf};
 ghost use Rattle.formula.specs.Heads.{byteAt, wordAt, nameAt, opAt, countAt, fewAt, exprBody, exprHead, predBody, predHead, declBody, declHead, targetAt};
 ghost use Rattle.formula.specs.Reader.{ownOf, declareOf, closedOf, moved, typeIn, spellingIn, forget, after};
 ghost use Rattle.formula.specs.Parse.{declAt, declsAt, exprAt, exprsAt, predAt, predsAt, targetIn, targetsAt, pairIn, pairsAt, becomesAt, formulaAt, parseOf, formOf};
+ghost use Rattle.formula.specs.EnvParse.{entryAt, capped};
+ghost use Rattle.formula.specs.EnvTold.{Told};
 use types::Name;
 use types::Place;
 use types::TypeEnd;
@@ -21,6 +26,8 @@ const LEVELS: u32 = 65;
 const MAX_SLOTS: u32 = 1024;
 
 const MAX_OPENED: u32 = 64;
+// The names that an environment can hold.
+const MAX_NAMES: u32 = 256;
 
 // ---- heads
 
@@ -418,6 +425,14 @@ fn close(opened: u32, o: Out) -> Out
 
 // ---- types and declarations. left: the levels of records that remain, the next record's included
 
+// One type record.
+fn type_at(s: &[u8], names: u32, left: u32, at: Place) -> TypeEnd
+    requires { ⌜ length (now s) ≤ 16384 ⌝ }
+    ensures { λ r. ⌜ r ≡ endOf (typeAt left names (now (s .entry)) (at .0)) ⌝ }
+{
+    types::type_end(s, names, at, left)
+}
+
 fn read_type(s: &[u8], names: u32, left: u32, o: Out) -> Out
     requires { ⌜ length (now s) ≤ 16384 ⌝ }
     ensures { λ r. ⌜ r ≡ after o (typeIn names (now (s .entry)) left) ⌝ }
@@ -426,7 +441,7 @@ fn read_type(s: &[u8], names: u32, left: u32, o: Out) -> Out
         Out::Stop(f) => Out::Stop(f),
         Out::Next(st) => {
             let at = st.at;
-            match types::type_end(s, names, at, left) {
+            match type_at(s, names, left, at) {
                 TypeEnd::End(e) => Out::Next(moved_to(e, st)),
                 TypeEnd::Malformed(p) => Out::Stop(Fault::Malformed(p)),
                 TypeEnd::Deep(p) => Out::Stop(Fault::Beyond(p)),
@@ -786,5 +801,114 @@ pub fn check_formula(s: &[u8], names: u32) -> Form
             }
             Form::Good
         }
+    }
+}
+
+// ---- environments
+
+// What the test of an environment answers: its form, and for each name the place of its type plus 1, or 0.
+pub struct Environment {
+    pub form: Form,
+    pub types: [u32; 256],
+}
+
+// An entry's head: 50 and a name below the count.
+fn entry_at(s: &[u8], names: u32, at: Place) -> Word
+    requires { ⌜ length (now s) ≤ 16384 ⌝ }
+    ensures { λ r. ⌜ r ≡ entryAt names (now (s .entry)) at ⌝ }
+{
+    match byte_at(s, at) {
+        Byte::Missing => Word::Missing,
+        Byte::Of(k, p) => {
+            if k == 0x50 {
+                return name_at(s, names, p);
+            }
+            Word::Missing
+        }
+    }
+}
+
+fn cap(names: u32) -> u32
+    ensures { λ r. ⌜ r ≡ capped names ⌝ }
+{
+    if MAX_NAMES < names {
+        return MAX_NAMES;
+    }
+    names
+}
+
+fn ended(s: &[u8], at: u32) -> bool
+    ensures { λ r. ⌜ r ≡ leb (length (now (s .entry))) at ⌝ }
+{
+    s.len() <= at as usize
+}
+
+// Tests whether a stream spells an environment inside the limits; if not, where it first fails. A count over 256 counts as 256.
+pub fn check_environment(s: &[u8], names: u32) -> Environment
+    ensures { λ r. ⌜ Told names (now (s .entry)) r ⌝ }
+{
+    let mut types = [0; 256];
+    if s.len() > MAX_BYTES {
+        return Environment {
+            form: Form::TooLong,
+            types,
+        };
+    }
+    let n = cap(names);
+    let mut at = 0;
+    let mut turns = s.len();
+    while 0 < turns {
+        if ended(s, at) {
+            return Environment {
+                form: Form::Good,
+                types,
+            };
+        }
+        match entry_at(s, n, Place(at)) {
+            Word::Missing => {
+                return Environment {
+                    form: Form::Bad(Fault::Malformed(Place(at))),
+                    types,
+                };
+            }
+            Word::Of(x, e) => {
+                let i = x as usize;
+                if types[i] != 0 {
+                    return Environment {
+                        form: Form::Bad(Fault::Malformed(Place(at))),
+                        types,
+                    };
+                }
+                match type_at(s, n, LEVELS - 1, e) {
+                    TypeEnd::End(f) => {
+                        types[i] = e.0 + 1;
+                        at = f.0;
+                    }
+                    TypeEnd::Malformed(p) => {
+                        return Environment {
+                            form: Form::Bad(Fault::Malformed(p)),
+                            types,
+                        };
+                    }
+                    TypeEnd::Deep(p) => {
+                        return Environment {
+                            form: Form::Bad(Fault::Beyond(p)),
+                            types,
+                        };
+                    }
+                }
+            }
+        }
+        turns -= 1;
+    }
+    if ended(s, at) {
+        return Environment {
+            form: Form::Good,
+            types,
+        };
+    }
+    Environment {
+        form: Form::Bad(Fault::Malformed(Place(at))),
+        types,
     }
 }

@@ -7,7 +7,7 @@ use Rattle.formula.proofs.read_type.Tie as tie
 use Rattle.formula.proofs.read_type.Reads as reads
 use Rattle.formula.proofs.read_type.Lts as lts
 use Rattle.formula.proofs.moved_to.Reads as moved-to-reads
-use Rattle.types.proofs.type_end.Reads as type-end-reads
+use Rattle.formula.proofs.type_at.Reads as type-at-reads
 
 -- src/lib.rt:404:19
 enum-known-o : tie.Need-enum-known-o
@@ -18,8 +18,8 @@ enum-known-o-2 : tie.Need-enum-known-o-2
 enum-known-o-2 c = search needs
 
 -- src/lib.rt:405:32
-type-end-requires : tie.Need-type-end-requires
-type-end-requires c κs = search needs
+type-at-requires : tie.Need-type-at-requires
+type-at-requires c κs = search needs
 
 -- src/lib.rt:406:26
 enum-known-e : tie.Need-enum-known-e
@@ -44,17 +44,17 @@ returns c = rw (c .before .o .given .1) (after-stop _ _)
 -- src/lib.rt:399:1
 returns-2 : tie.Need-returns-2
 unfolding typeOut
-returns-2 c = rw (c .before .before .before .before .before .before .before .o2 .given .1, type-in _ _ _ _ (c .before .before .before .before .before .before .before .before .before .before .pre), (sym (c .before .before .before .before .type-end .ensures) ∙ c .before .before .e .given .1), c .moved-to .ensures)
+returns-2 c = rw (c .before .before .before .before .before .before .before .o2 .given .1, type-in _ _ _ _, (sym (c .before .before .before .before .type-at .ensures) ∙ c .before .before .e .given .1), c .moved-to .ensures)
 
 -- src/lib.rt:399:1
 returns-3 : tie.Need-returns-3
 unfolding typeOut
-returns-3 c = rw (c .before .before .before .before .before .before .o2 .given .1, type-in _ _ _ _ (c .before .before .before .before .before .before .before .before .before .pre), (sym (c .before .before .before .type-end .ensures) ∙ c .before .p .given .1))
+returns-3 c = rw (c .before .before .before .before .before .before .o2 .given .1, type-in _ _ _ _, (sym (c .before .before .before .type-at .ensures) ∙ c .before .p .given .1))
 
 -- src/lib.rt:399:1
 returns-4 : tie.Need-returns-4
 unfolding typeOut
-returns-4 c = rw (c .before .before .before .before .before .before .o2 .given .1, type-in _ _ _ _ (c .before .before .before .before .before .before .before .before .before .pre), (sym (c .before .before .before .type-end .ensures) ∙ c .before .p2 .given .1))
+returns-4 c = rw (c .before .before .before .before .before .before .o2 .given .1, type-in _ _ _ _, (sym (c .before .before .before .type-at .ensures) ∙ c .before .p2 .given .1))
 
 pub read-type-spec : {M : Type 1} → statement M
 read-type-spec =
@@ -62,7 +62,7 @@ read-type-spec =
     (tie.spec
     enum-known-o
     enum-known-o-2
-    type-end-requires
+    type-at-requires
     enum-known-e
     moved-to-requires
     enum-known-p

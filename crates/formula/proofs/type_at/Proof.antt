@@ -1,0 +1,19 @@
+use mathlib.Core.Path.{_≡_, refl, sym, ap, _∙_}
+use Rattle.formula.specs.Steps.{type-short}
+use borrow.Author.Needs.{needs}
+use Rattle.formula.proofs.type_at.Statement.{statement}
+use Rattle.formula.proofs.type_at.Tie as tie
+use Rattle.formula.proofs.type_at.Reads as reads
+use Rattle.formula.proofs.type_at.Lts as lts
+use Rattle.types.proofs.type_end.Reads as type-end-reads
+
+-- src/lib.rt:433:5
+type-end-requires : tie.Need-type-end-requires
+type-end-requires c κs = search needs
+
+-- src/lib.rt:429:1
+returns : tie.Need-returns
+returns c = c .type-end .ensures ∙ type-short _ _ _ _ (c .before .before .pre)
+
+pub type-at-spec : {M : Type 1} → statement M
+type-at-spec = tie.close (tie.spec type-end-requires returns)
