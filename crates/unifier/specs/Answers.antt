@@ -4,6 +4,7 @@
 -- Where a function changes the words, the reading takes them as they are at exit, so that one equation says answer and words.
 use Prim.Native.Nat.{ℕ}
 use mathlib.Core.Bool.{Bool, true, false}
+use lib.Dec.{eqb}
 use Rattle.meter.specs.Meter.{Out, spent, halt, done, Why, broken, full, M, ret, fail}
 use Rattle.types.specs.Ty.{Atom, bool, int, given}
 use Rattle.types.specs.declared.NodeRef.{NodeRef}
@@ -72,3 +73,21 @@ settled (Un.Mismatch l) ws = done (S.mismatch, ws) l
 settled (Un.Circular l) ws = done (S.circular, ws) l
 settled Un.Spent ws = spent ws
 settled Un.Broken ws = halt broken ws
+
+-- ---- the numbers that go between levels: 0 yes or unified, 1 no, 100 mismatch, 101 circular, 7 spent, any other broken
+abbrev pub pick : {A : Type 0} → Bool → A → A → A
+pick true a b = a
+pick false a b = b
+
+unfoldable pub toldAs : ℕ → ℕ → Out S.U Bool
+toldAs r left =
+    pick (eqb r 0) (done true left)
+    (pick (eqb r 1) (done false left)
+    (pick (eqb r 7) (spent tt) (halt broken tt)))
+
+unfoldable pub unifiedAs : ℕ → ℕ → S.Words → Out S.Words S.Answer
+unifiedAs r left ws =
+    pick (eqb r 0) (done (S.unified, ws) left)
+    (pick (eqb r 100) (done (S.mismatch, ws) left)
+    (pick (eqb r 101) (done (S.circular, ws) left)
+    (pick (eqb r 7) (spent ws) (halt broken ws))))

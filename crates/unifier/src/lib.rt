@@ -14,7 +14,7 @@ ghost use Rattle.unification.specs.Arena.{nodeAt, free, leaf, power, pair, meet
 ghost use Rattle.unification.specs.Good.{Root};
 ghost use Rattle.unification.specs.Make.{makeOf, build, relate};
 ghost use Rattle.unification.specs.Tasks.{arrive, reach, taskOf, takeUp};
-ghost use Rattle.unifier.specs.Answers.{nodeOf, foundOf, Settled, made, arrived, told, taken, settled};
+ghost use Rattle.unifier.specs.Answers.{nodeOf, foundOf, Settled, made, arrived, told, toldAs, taken, settled, unifiedAs};
 
 // A node that is no binding: a kind and its two operands.
 pub struct Node {
@@ -228,34 +228,55 @@ pub fn visit(words: &[u32], count: u32, t: NodeRef, budget: u64) -> Resolved
     }
 }
 
+// Whether the unknown `sought` occurs below `t`: 0 it does, 1 it does not, 7 the budget is spent, 2 a broken node. What is left of the budget
+// stands in `left`. The numbers go by register and the budget in place: an enum here would be copied at every level.
+fn seek(words: &[u32], count: u32, sought: NodeRef, t: NodeRef, left: &mut u64) -> u32
+    ensures { λ r. ⌜ toldAs r (now (left .exit)) ≡ occurs (now (words .entry)) count (sought .0) (t .0) (now (left .entry)) ⌝ }
+{
+    let seen = visit(words, count, t, *left);
+    match seen {
+        Resolved::Spent => 7,
+        Resolved::Broken => 2,
+        Resolved::At(at, node, rest) => {
+            *left = rest;
+            if at.0 == sought.0 {
+                return 0;
+            }
+            let kind = node.kind;
+            match kind {
+                0x43 => seek(words, count, sought, NodeRef(node.a), left),
+                0x44 => {
+                    let first = seek(words, count, sought, NodeRef(node.a), left);
+                    if first != 1 {
+                        return first;
+                    }
+                    seek(words, count, sought, NodeRef(node.b), left)
+                }
+                _ => 1,
+            }
+        }
+    }
+}
+
+// A number of `seek` or `test`, and what is left, as an answer.
+fn tell(number: u32, left: u64) -> Told
+    ensures { λ r. ⌜ told r ≡ toldAs number left ⌝ }
+{
+    match number {
+        0 => Told::Yes(left),
+        1 => Told::No(left),
+        7 => Told::Spent,
+        _ => Told::Broken,
+    }
+}
+
 // Whether the unknown `sought` occurs below `t`.
 pub fn occurs(words: &[u32], count: u32, sought: NodeRef, t: NodeRef, budget: u64) -> Told
     ensures { λ r. ⌜ told r ≡ occurs (now (words .entry)) count (sought .0) (t .0) budget ⌝ }
 {
-    let seen = visit(words, count, t, budget);
-    match seen {
-        Resolved::Spent => Told::Spent,
-        Resolved::Broken => Told::Broken,
-        Resolved::At(at, node, left) => {
-            if at.0 == sought.0 {
-                return Told::Yes(left);
-            }
-            let kind = node.kind;
-            match kind {
-                0x43 => occurs(words, count, sought, NodeRef(node.a), left),
-                0x44 => {
-                    let first = occurs(words, count, sought, NodeRef(node.a), left);
-                    match first {
-                        Told::No(rest) => occurs(words, count, sought, NodeRef(node.b), rest),
-                        Told::Yes(rest) => Told::Yes(rest),
-                        Told::Spent => Told::Spent,
-                        Told::Broken => Told::Broken,
-                    }
-                }
-                _ => Told::No(left),
-            }
-        }
-    }
+    let mut left = budget;
+    let number = seek(words, count, sought, t, &mut left);
+    tell(number, left)
 }
 
 // What two nodes ask, of which the first stands at `a` and the second at `b`.
@@ -315,21 +336,55 @@ fn take_up(words: &[u32], count: u32, a: NodeRef, b: NodeRef, budget: u64) -> Pa
     }
 }
 
-// Binds the unknown at `v` to `t`, unless it occurs there.
-fn bind(words: &mut [u32], count: u32, v: NodeRef, t: NodeRef, budget: u64) -> Unified
+// Binds the unknown at `v` to `t`, unless it occurs there. The numbers are those of `join`.
+fn bind(words: &mut [u32], count: u32, v: NodeRef, t: NodeRef, left: &mut u64) -> u32
     requires { ⌜ 3 * v .0 + 2 < length (now words) ⌝ }
-    ensures { λ r. ⌜ settled r (now (words .exit)) ≡ assign (now (words .entry)) count (v .0) (t .0) budget ⌝ }
+    ensures { λ r. ⌜ unifiedAs r (now (left .exit)) (now (words .exit)) ≡ assign (now (words .entry)) count (v .0) (t .0) (now (left .entry)) ⌝ }
 {
-    let found = occurs(words, count, v, t, budget);
-    match found {
-        Told::Yes(left) => Unified::Circular(left),
-        Told::Spent => Unified::Spent,
-        Told::Broken => Unified::Broken,
-        Told::No(left) => {
-            let at = 3 * (v.0 as usize);
-            words[at] = 0x4D;
-            words[at + 1] = t.0;
-            Unified::Done(left)
+    let found = seek(words, count, v, t, left);
+    if found == 1 {
+        let at = 3 * (v.0 as usize);
+        words[at] = 0x4D;
+        words[at + 1] = t.0;
+        return 0;
+    }
+    if found == 0 {
+        return 101;
+    }
+    found
+}
+
+// Makes two references equal: 0 they are, 100 a mismatch, 101 a circularity, 7 the budget is spent, 2 a broken node.
+fn join(words: &mut [u32], count: u32, a: NodeRef, b: NodeRef, left: &mut u64) -> u32
+    ensures { λ r. ⌜ unifiedAs r (now (left .exit)) (now (words .exit)) ≡ unify count (now (words .entry), a .0, b .0) (now (left .entry)) ⌝ }
+{
+    let pair = take_up(words, count, a, b, *left);
+    match pair {
+        Pair::Spent => 7,
+        Pair::Broken => 2,
+        Pair::Same(rest) => {
+            *left = rest;
+            0
+        }
+        Pair::Clash(rest) => {
+            *left = rest;
+            100
+        }
+        Pair::Bind(v, t, rest) => {
+            *left = rest;
+            bind(words, count, v, t, left)
+        }
+        Pair::One(x, y, rest) => {
+            *left = rest;
+            join(words, count, x, y, left)
+        }
+        Pair::Two(x, y, z, u, rest) => {
+            *left = rest;
+            let first = join(words, count, x, y, left);
+            if first != 0 {
+                return first;
+            }
+            join(words, count, z, u, left)
         }
     }
 }
@@ -338,22 +393,39 @@ fn bind(words: &mut [u32], count: u32, v: NodeRef, t: NodeRef, budget: u64) -> U
 pub fn unify(words: &mut [u32], count: u32, a: NodeRef, b: NodeRef, budget: u64) -> Unified
     ensures { λ r. ⌜ settled r (now (words .exit)) ≡ unify count (now (words .entry), a .0, b .0) budget ⌝ }
 {
-    let pair = take_up(words, count, a, b, budget);
-    match pair {
-        Pair::Spent => Unified::Spent,
-        Pair::Broken => Unified::Broken,
-        Pair::Same(left) => Unified::Done(left),
-        Pair::Clash(left) => Unified::Mismatch(left),
-        Pair::Bind(v, t, left) => bind(words, count, v, t, left),
-        Pair::One(x, y, left) => unify(words, count, x, y, left),
-        Pair::Two(x, y, z, u, left) => {
-            let first = unify(words, count, x, y, left);
-            match first {
-                Unified::Done(rest) => unify(words, count, z, u, rest),
-                Unified::Mismatch(rest) => Unified::Mismatch(rest),
-                Unified::Circular(rest) => Unified::Circular(rest),
-                Unified::Spent => Unified::Spent,
-                Unified::Broken => Unified::Broken,
+    let mut left = budget;
+    let number = join(words, count, a, b, &mut left);
+    match number {
+        0 => Unified::Done(left),
+        100 => Unified::Mismatch(left),
+        101 => Unified::Circular(left),
+        7 => Unified::Spent,
+        _ => Unified::Broken,
+    }
+}
+
+// Whether no unknown remains below `t`, by the numbers of `seek`.
+fn test(words: &[u32], count: u32, t: NodeRef, left: &mut u64) -> u32
+    ensures { λ r. ⌜ toldAs r (now (left .exit)) ≡ solved (now (words .entry)) count (t .0) (now (left .entry)) ⌝ }
+{
+    let seen = visit(words, count, t, *left);
+    match seen {
+        Resolved::Spent => 7,
+        Resolved::Broken => 2,
+        Resolved::At(_, node, rest) => {
+            *left = rest;
+            let kind = node.kind;
+            match kind {
+                0x4E => 1,
+                0x43 => test(words, count, NodeRef(node.a), left),
+                0x44 => {
+                    let first = test(words, count, NodeRef(node.a), left);
+                    if first != 0 {
+                        return first;
+                    }
+                    test(words, count, NodeRef(node.b), left)
+                }
+                _ => 0,
             }
         }
     }
@@ -363,26 +435,7 @@ pub fn unify(words: &mut [u32], count: u32, a: NodeRef, b: NodeRef, budget: u64)
 pub fn solved(words: &[u32], count: u32, t: NodeRef, budget: u64) -> Told
     ensures { λ r. ⌜ told r ≡ solved (now (words .entry)) count (t .0) budget ⌝ }
 {
-    let seen = visit(words, count, t, budget);
-    match seen {
-        Resolved::Spent => Told::Spent,
-        Resolved::Broken => Told::Broken,
-        Resolved::At(_, node, left) => {
-            let kind = node.kind;
-            match kind {
-                0x4E => Told::No(left),
-                0x43 => solved(words, count, NodeRef(node.a), left),
-                0x44 => {
-                    let first = solved(words, count, NodeRef(node.a), left);
-                    match first {
-                        Told::Yes(rest) => solved(words, count, NodeRef(node.b), rest),
-                        Told::No(rest) => Told::No(rest),
-                        Told::Spent => Told::Spent,
-                        Told::Broken => Told::Broken,
-                    }
-                }
-                _ => Told::Yes(left),
-            }
-        }
-    }
+    let mut left = budget;
+    let number = test(words, count, t, &mut left);
+    tell(number, left)
 }
