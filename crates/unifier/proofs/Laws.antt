@@ -19,6 +19,14 @@ pub told-no : (r m : ℕ) → r ≡ 1 → toldAs r m ≡ done false m
 unfolding toldAs
 told-no r m e = rw e refl
 
+pub told-spent : (r m : ℕ) → r ≡ 7 → toldAs r m ≡ spent tt
+unfolding toldAs
+told-spent r m e = rw e refl
+
+pub told-broken : (r m : ℕ) → r ≢ 0 → r ≢ 1 → r ≢ 7 → toldAs r m ≡ halt broken tt
+unfolding toldAs
+told-broken r m e f g = rw (ne-eqb r 0 e, ne-eqb r 1 f, ne-eqb r 7 g) refl
+
 -- not 1: yes, spent or broken
 module _ (P : Out U Bool → Type 0) (m : ℕ) (y : P (done true m)) (s : P (spent tt)) (b : P (halt broken tt)) where
   last-of : (c : Bool) → P (pick c (spent tt) (halt broken tt))
@@ -72,12 +80,28 @@ unified-zero r m ws e = rw e refl
 -- a half that does not say no ends the search; one that is not solved ends the test; one that fails ends the comparison
 pub occurs-stop : (ws : Words) (n t b l r k x y : ℕ) → reach ws n t b ≡ done (r, decode k x y) l → (v : ℕ) → r ≢ v → k ≡ 0x44 → (f m : ℕ) → f ≢ 1 → occurs ws n v x l ≡ toldAs f m → occurs ws n v t b ≡ toldAs f m
 occurs-stop ws n t b l r k x y e v h z f m g = not-no (λ o. occurs ws n v x l ≡ o → occurs ws n v t b ≡ o) m
-  (occurs-pair-yes ws n t b l r k x y e v h m z) (occurs-pair-spent ws n t b l r k x y e v h z) (occurs-pair-broken ws n t b l r k x y e v h z) f g
+    (occurs-pair-yes ws n t b l r k x y e v h m z) (occurs-pair-spent ws n t b l r k x y e v h z) (occurs-pair-broken ws n t b l r k x y e v h z) f g
 
 pub solved-stop : (ws : Words) (n t b l r k x y : ℕ) → reach ws n t b ≡ done (r, decode k x y) l → k ≡ 0x44 → (f m : ℕ) → f ≢ 0 → solved ws n x l ≡ toldAs f m → solved ws n t b ≡ toldAs f m
 solved-stop ws n t b l r k x y e z f m g = not-yes (λ o. solved ws n x l ≡ o → solved ws n t b ≡ o) m
-  (solved-pair-no ws n t b l r k x y e m z) (solved-pair-spent ws n t b l r k x y e z) (solved-pair-broken ws n t b l r k x y e z) f g
+    (solved-pair-no ws n t b l r k x y e m z) (solved-pair-spent ws n t b l r k x y e z) (solved-pair-broken ws n t b l r k x y e z) f g
 
 pub unify-stop : (ws : Words) (n a b k x z y w l : ℕ) → takeUp ws n a b k ≡ done (two x z y w) l → (f m : ℕ) (ws′ : Words) → f ≢ 0 → unify n (ws, x, z) l ≡ unifiedAs f m ws′ → unify n (ws, a, b) k ≡ unifiedAs f m ws′
 unify-stop ws n a b k x z y w l e f m ws′ g = not-unified (λ o. unify n (ws, x, z) l ≡ o → unify n (ws, a, b) k ≡ o) m ws′
-  (unify-left-mismatch ws n a b k x z y w l e ws′ m) (unify-left-circular ws n a b k x z y w l e ws′ m) (unify-left-spent ws n a b k x z y w l e ws′) (unify-left-broken ws n a b k x z y w l e ws′) f g
+    (unify-left-mismatch ws n a b k x z y w l e ws′ m) (unify-left-circular ws n a b k x z y w l e ws′ m) (unify-left-spent ws n a b k x z y w l e ws′) (unify-left-broken ws n a b k x z y w l e ws′) f g
+
+pub unified-mismatch : (r m : ℕ) (ws : Words) → r ≡ 100 → unifiedAs r m ws ≡ done (mismatch, ws) m
+unfolding unifiedAs
+unified-mismatch r m ws e = rw e refl
+
+pub unified-circular : (r m : ℕ) (ws : Words) → r ≡ 101 → unifiedAs r m ws ≡ done (circular, ws) m
+unfolding unifiedAs
+unified-circular r m ws e = rw e refl
+
+pub unified-spent : (r m : ℕ) (ws : Words) → r ≡ 7 → unifiedAs r m ws ≡ spent ws
+unfolding unifiedAs
+unified-spent r m ws e = rw e refl
+
+pub unified-broken : (r m : ℕ) (ws : Words) → r ≢ 0 → r ≢ 100 → r ≢ 101 → r ≢ 7 → unifiedAs r m ws ≡ halt broken ws
+unfolding unifiedAs
+unified-broken r m ws e f g h = rw (ne-eqb r 0 e, ne-eqb r 100 f, ne-eqb r 101 g, ne-eqb r 7 h) refl

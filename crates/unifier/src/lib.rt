@@ -351,7 +351,10 @@ fn bind(words: &mut [u32], count: u32, v: NodeRef, t: NodeRef, left: &mut u64) -
     if found == 0 {
         return 101;
     }
-    found
+    if found == 7 {
+        return 7;
+    }
+    2
 }
 
 // Makes two references equal: 0 they are, 100 a mismatch, 101 a circularity, 7 the budget is spent, 2 a broken node.

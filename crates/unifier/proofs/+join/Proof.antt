@@ -1,3 +1,9 @@
+use mathlib.Core.Path.{sym, _∙_, ap}
+use native.Mathlib.Omega.{arith}
+use borrow.Author.Needs.{needs}
+use Rattle.unification.specs.Code.{take-inside, take-left, unify-left, unify-spent, unify-broken, unify-same, unify-differ, unify-bind, unify-one, unify-right}
+use Rattle.unifier.specs.Answers.{taken, unifiedAs}
+use Rattle.unifier.proofs.Laws.{unified-zero, unify-stop}
 use Prim.Native.Nat.{ℕ, _<_}
 use borrow.Fn.Kinds.{In}
 use borrow.Fn.PlainCycle.{Measures, is, falls, and}
@@ -10,7 +16,7 @@ use Rattle.unifier.proofs.+join.{statement}
 use Rattle.unifier.proofs.+join.Tie.{close}
 
 abbrev μ-join : Measures 2 join-kinds.ps ℕ
-μ-join κs a = ?
+μ-join κs a = a .1 .1 .1 .1 .0 .now
 
 abbrev join-at : ℕ → In 2 join-kinds.ps
 join-at t = and 2 join-kinds.ps (is 2 join-kinds.ps μ-join t) join.Pre
@@ -18,323 +24,108 @@ join-at t = and 2 join-kinds.ps (is 2 join-kinds.ps μ-join t) join.Pre
 abbrev join-below : ℕ → In 2 join-kinds.ps
 join-below t = and 2 join-kinds.ps (falls 2 join-kinds.ps _<_ μ-join t) join.Pre
 
--- src/lib.rt:361:9
-join-take-up-requires : (t : ℕ) → join-lts.Need-take-up-requires (
-  take-up-reads.Asked,
-  take-up-reads.Learnt,
-  bind-reads.Asked,
-  bind-reads.Learnt,
-  join-below t,
-  join.Post,
-) (join-at t) join.Post
-join-take-up-requires t c κs = ?
+-- what each member is handed of the functions that it calls
+abbrev join-env : ℕ → join-lts.Claims
+join-env t = (take-up-reads.Asked, take-up-reads.Learnt, bind-reads.Asked, bind-reads.Learnt, join-below t, join.Post)
 
--- src/lib.rt:363:24
-join-enum-told : (t : ℕ) → join-lts.Need-enum-told (
-  take-up-reads.Asked,
-  take-up-reads.Learnt,
-  bind-reads.Asked,
-  bind-reads.Learnt,
-  join-below t,
-  join.Post,
-) (join-at t) join.Post
-join-enum-told t c = ?
+join-take-up-requires : (t : ℕ) → join-lts.Need-take-up-requires (join-env t) (join-at t) join.Post
+join-take-up-requires t c κs = search needs
 
--- src/lib.rt:364:25
-join-enum-told-2 : (t : ℕ) → join-lts.Need-enum-told-2 (
-  take-up-reads.Asked,
-  take-up-reads.Learnt,
-  bind-reads.Asked,
-  bind-reads.Learnt,
-  join-below t,
-  join.Post,
-) (join-at t) join.Post
-join-enum-told-2 t c = ?
+join-enum-told : (t : ℕ) → join-lts.Need-enum-told (join-env t) (join-at t) join.Post
+join-enum-told t c = search needs
 
--- src/lib.rt:365:20
-join-enum-known-pair : (t : ℕ) → join-lts.Need-enum-known-pair (
-  take-up-reads.Asked,
-  take-up-reads.Learnt,
-  bind-reads.Asked,
-  bind-reads.Learnt,
-  join-below t,
-  join.Post,
-) (join-at t) join.Post
-join-enum-known-pair t c = ?
+join-enum-told-2 : (t : ℕ) → join-lts.Need-enum-told-2 (join-env t) (join-at t) join.Post
+join-enum-told-2 t c = search needs
 
--- src/lib.rt:369:21
-join-enum-known-pair-2 : (t : ℕ) → join-lts.Need-enum-known-pair-2 (
-  take-up-reads.Asked,
-  take-up-reads.Learnt,
-  bind-reads.Asked,
-  bind-reads.Learnt,
-  join-below t,
-  join.Post,
-) (join-at t) join.Post
-join-enum-known-pair-2 t c = ?
+join-enum-known-pair : (t : ℕ) → join-lts.Need-enum-known-pair (join-env t) (join-at t) join.Post
+join-enum-known-pair t c = search needs
 
--- src/lib.rt:373:20
-join-enum-known-pair-3 : (t : ℕ) → join-lts.Need-enum-known-pair-3 (
-  take-up-reads.Asked,
-  take-up-reads.Learnt,
-  bind-reads.Asked,
-  bind-reads.Learnt,
-  join-below t,
-  join.Post,
-) (join-at t) join.Post
-join-enum-known-pair-3 t c = ?
+join-enum-known-pair-2 : (t : ℕ) → join-lts.Need-enum-known-pair-2 (join-env t) (join-at t) join.Post
+join-enum-known-pair-2 t c = search needs
 
--- src/lib.rt:375:13
-join-bind-requires : (t : ℕ) → join-lts.Need-bind-requires (
-  take-up-reads.Asked,
-  take-up-reads.Learnt,
-  bind-reads.Asked,
-  bind-reads.Learnt,
-  join-below t,
-  join.Post,
-) (join-at t) join.Post
-join-bind-requires t c κs = ?
+join-enum-known-pair-3 : (t : ℕ) → join-lts.Need-enum-known-pair-3 (join-env t) (join-at t) join.Post
+join-enum-known-pair-3 t c = search needs
 
--- src/lib.rt:377:19
-join-enum-known-pair-4 : (t : ℕ) → join-lts.Need-enum-known-pair-4 (
-  take-up-reads.Asked,
-  take-up-reads.Learnt,
-  bind-reads.Asked,
-  bind-reads.Learnt,
-  join-below t,
-  join.Post,
-) (join-at t) join.Post
-join-enum-known-pair-4 t c = ?
+join-bind-requires : (t : ℕ) → join-lts.Need-bind-requires (join-env t) (join-at t) join.Post
+unfolding taken
+join-bind-requires t c κs = take-inside _ _ _ _ _ _ _ _ (sym (c .before .before .before .before .before .take-up .ensures) ∙ ap taken (c .before .before .before .pair3 .given .1))
 
--- src/lib.rt:379:13
-join-join-requires : (t : ℕ) → join-lts.Need-join-requires (
-  take-up-reads.Asked,
-  take-up-reads.Learnt,
-  bind-reads.Asked,
-  bind-reads.Learnt,
-  join-below t,
-  join.Post,
-) (join-at t) join.Post
-join-join-requires t c κs = ?
+join-enum-known-pair-4 : (t : ℕ) → join-lts.Need-enum-known-pair-4 (join-env t) (join-at t) join.Post
+join-enum-known-pair-4 t c = search needs
 
--- src/lib.rt:381:19
-join-enum-known-pair-5 : (t : ℕ) → join-lts.Need-enum-known-pair-5 (
-  take-up-reads.Asked,
-  take-up-reads.Learnt,
-  bind-reads.Asked,
-  bind-reads.Learnt,
-  join-below t,
-  join.Post,
-) (join-at t) join.Post
-join-enum-known-pair-5 t c = ?
+join-join-requires : (t : ℕ) → join-lts.Need-join-requires (join-env t) (join-at t) join.Post
+unfolding taken
+join-join-requires t c κs = (omega (arith, take-left _ _ _ _ _ _ _ (sym (c .before .before .before .before .before .take-up .ensures) ∙ ap taken (c .before .before .before .pair4 .given .1)), c .before .before .before .before .before .before .before .before .before .pre .0), tt)
 
--- src/lib.rt:383:17
-join-join-requires-2 : (t : ℕ) → join-lts.Need-join-requires-2 (
-  take-up-reads.Asked,
-  take-up-reads.Learnt,
-  bind-reads.Asked,
-  bind-reads.Learnt,
-  join-below t,
-  join.Post,
-) (join-at t) join.Post
-join-join-requires-2 t c κs = ?
+join-enum-known-pair-5 : (t : ℕ) → join-lts.Need-enum-known-pair-5 (join-env t) (join-at t) join.Post
+join-enum-known-pair-5 t c = search needs
 
--- src/lib.rt:385:17
-join-same-length : (t : ℕ) → join-lts.Need-same-length (
-  take-up-reads.Asked,
-  take-up-reads.Learnt,
-  bind-reads.Asked,
-  bind-reads.Learnt,
-  join-below t,
-  join.Post,
-) (join-at t) join.Post
-join-same-length t c = ?
+join-join-requires-2 : (t : ℕ) → join-lts.Need-join-requires-2 (join-env t) (join-at t) join.Post
+unfolding taken
+join-join-requires-2 t c κs = (omega (arith, take-left _ _ _ _ _ _ _ (sym (c .before .before .before .before .before .take-up .ensures) ∙ ap taken (c .before .before .before .pair5 .given .1)), c .before .before .before .before .before .before .before .before .before .pre .0), tt)
 
--- src/lib.rt:385:17
-join-returns : (t : ℕ) → join-lts.Need-returns (
-  take-up-reads.Asked,
-  take-up-reads.Learnt,
-  bind-reads.Asked,
-  bind-reads.Learnt,
-  join-below t,
-  join.Post,
-) (join-at t) join.Post
-join-returns t c = ?
+join-same-length : (t : ℕ) → join-lts.Need-same-length (join-env t) (join-at t) join.Post
+join-same-length t c = search needs
 
--- src/lib.rt:387:13
-join-join-requires-3 : (t : ℕ) → join-lts.Need-join-requires-3 (
-  take-up-reads.Asked,
-  take-up-reads.Learnt,
-  bind-reads.Asked,
-  bind-reads.Learnt,
-  join-below t,
-  join.Post,
-) (join-at t) join.Post
-join-join-requires-3 t c κs = ?
+join-returns : (t : ℕ) → join-lts.Need-returns (join-env t) (join-at t) join.Post
+unfolding taken
+join-returns t c = sym (unify-stop _ _ _ _ _ _ _ _ _ _ (sym (c .before .before .before .before .before .before .before .before .before .take-up .ensures) ∙ ap taken (c .before .before .before .before .before .before .before .pair5 .given .1)) _ _ _ (c .if1 .taken) (sym (c .before .before .before .join2 .ensures)))
 
--- src/lib.rt:358:1
-join-same-length-2 : (t : ℕ) → join-lts.Need-same-length-2 (
-  take-up-reads.Asked,
-  take-up-reads.Learnt,
-  bind-reads.Asked,
-  bind-reads.Learnt,
-  join-below t,
-  join.Post,
-) (join-at t) join.Post
-join-same-length-2 t c = ?
+join-join-requires-3 : (t : ℕ) → join-lts.Need-join-requires-3 (join-env t) (join-at t) join.Post
+unfolding taken
+join-join-requires-3 t c κs = (omega (arith, take-left _ _ _ _ _ _ _ (sym (c .before .before .before .before .before .before .before .before .before .before .before .take-up .ensures) ∙ ap taken (c .before .before .before .before .before .before .before .before .before .pair5 .given .1)), unify-left _ _ _ _ _ _ _ (sym (c .before .before .before .before .before .join2 .ensures) ∙ unified-zero _ _ _ (c .before .before .if1 .left)), c .before .before .before .before .before .before .before .before .before .before .before .before .before .before .before .pre .0), tt)
 
--- src/lib.rt:358:1
-join-returns-2 : (t : ℕ) → join-lts.Need-returns-2 (
-  take-up-reads.Asked,
-  take-up-reads.Learnt,
-  bind-reads.Asked,
-  bind-reads.Learnt,
-  join-below t,
-  join.Post,
-) (join-at t) join.Post
-join-returns-2 t c = ?
+join-same-length-2 : (t : ℕ) → join-lts.Need-same-length-2 (join-env t) (join-at t) join.Post
+join-same-length-2 t c = search needs
 
--- src/lib.rt:358:1
-join-same-length-3 : (t : ℕ) → join-lts.Need-same-length-3 (
-  take-up-reads.Asked,
-  take-up-reads.Learnt,
-  bind-reads.Asked,
-  bind-reads.Learnt,
-  join-below t,
-  join.Post,
-) (join-at t) join.Post
-join-same-length-3 t c = ?
+join-returns-2 : (t : ℕ) → join-lts.Need-returns-2 (join-env t) (join-at t) join.Post
+unfolding unifiedAs taken
+join-returns-2 t c = sym (unify-spent _ _ _ _ _ (sym (c .before .before .take-up .ensures) ∙ ap taken (c .enum-told .given .1)))
 
--- src/lib.rt:358:1
-join-returns-3 : (t : ℕ) → join-lts.Need-returns-3 (
-  take-up-reads.Asked,
-  take-up-reads.Learnt,
-  bind-reads.Asked,
-  bind-reads.Learnt,
-  join-below t,
-  join.Post,
-) (join-at t) join.Post
-join-returns-3 t c = ?
+join-same-length-3 : (t : ℕ) → join-lts.Need-same-length-3 (join-env t) (join-at t) join.Post
+join-same-length-3 t c = search needs
 
--- src/lib.rt:358:1
-join-same-length-4 : (t : ℕ) → join-lts.Need-same-length-4 (
-  take-up-reads.Asked,
-  take-up-reads.Learnt,
-  bind-reads.Asked,
-  bind-reads.Learnt,
-  join-below t,
-  join.Post,
-) (join-at t) join.Post
-join-same-length-4 t c = ?
+join-returns-3 : (t : ℕ) → join-lts.Need-returns-3 (join-env t) (join-at t) join.Post
+unfolding unifiedAs taken
+join-returns-3 t c = sym (unify-broken _ _ _ _ _ (sym (c .before .before .take-up .ensures) ∙ ap taken (c .enum-told2 .given .1)))
 
--- src/lib.rt:358:1
-join-returns-4 : (t : ℕ) → join-lts.Need-returns-4 (
-  take-up-reads.Asked,
-  take-up-reads.Learnt,
-  bind-reads.Asked,
-  bind-reads.Learnt,
-  join-below t,
-  join.Post,
-) (join-at t) join.Post
-join-returns-4 t c = ?
+join-same-length-4 : (t : ℕ) → join-lts.Need-same-length-4 (join-env t) (join-at t) join.Post
+join-same-length-4 t c = search needs
 
--- src/lib.rt:358:1
-join-same-length-5 : (t : ℕ) → join-lts.Need-same-length-5 (
-  take-up-reads.Asked,
-  take-up-reads.Learnt,
-  bind-reads.Asked,
-  bind-reads.Learnt,
-  join-below t,
-  join.Post,
-) (join-at t) join.Post
-join-same-length-5 t c = ?
+join-returns-4 : (t : ℕ) → join-lts.Need-returns-4 (join-env t) (join-at t) join.Post
+unfolding unifiedAs taken
+join-returns-4 t c = sym (unify-same _ _ _ _ _ _ (sym (c .before .before .before .take-up .ensures) ∙ ap taken (c .before .pair .given .1)))
 
--- src/lib.rt:358:1
-join-returns-5 : (t : ℕ) → join-lts.Need-returns-5 (
-  take-up-reads.Asked,
-  take-up-reads.Learnt,
-  bind-reads.Asked,
-  bind-reads.Learnt,
-  join-below t,
-  join.Post,
-) (join-at t) join.Post
-join-returns-5 t c = ?
+join-same-length-5 : (t : ℕ) → join-lts.Need-same-length-5 (join-env t) (join-at t) join.Post
+join-same-length-5 t c = search needs
 
--- src/lib.rt:358:1
-join-same-length-6 : (t : ℕ) → join-lts.Need-same-length-6 (
-  take-up-reads.Asked,
-  take-up-reads.Learnt,
-  bind-reads.Asked,
-  bind-reads.Learnt,
-  join-below t,
-  join.Post,
-) (join-at t) join.Post
-join-same-length-6 t c = ?
+join-returns-5 : (t : ℕ) → join-lts.Need-returns-5 (join-env t) (join-at t) join.Post
+unfolding unifiedAs taken
+join-returns-5 t c = sym (unify-differ _ _ _ _ _ _ (sym (c .before .before .before .take-up .ensures) ∙ ap taken (c .before .pair2 .given .1)))
 
--- src/lib.rt:358:1
-join-returns-6 : (t : ℕ) → join-lts.Need-returns-6 (
-  take-up-reads.Asked,
-  take-up-reads.Learnt,
-  bind-reads.Asked,
-  bind-reads.Learnt,
-  join-below t,
-  join.Post,
-) (join-at t) join.Post
-join-returns-6 t c = ?
+join-same-length-6 : (t : ℕ) → join-lts.Need-same-length-6 (join-env t) (join-at t) join.Post
+join-same-length-6 t c = search needs
 
--- src/lib.rt:358:1
-join-same-length-7 : (t : ℕ) → join-lts.Need-same-length-7 (
-  take-up-reads.Asked,
-  take-up-reads.Learnt,
-  bind-reads.Asked,
-  bind-reads.Learnt,
-  join-below t,
-  join.Post,
-) (join-at t) join.Post
-join-same-length-7 t c = ?
+join-returns-6 : (t : ℕ) → join-lts.Need-returns-6 (join-env t) (join-at t) join.Post
+unfolding taken
+join-returns-6 t c = c .before .before .bind .ensures ∙ sym (unify-bind _ _ _ _ _ _ _ _ (sym (c .before .before .before .before .before .before .before .before .take-up .ensures) ∙ ap taken (c .before .before .before .before .before .before .pair3 .given .1)))
 
--- src/lib.rt:358:1
-join-returns-7 : (t : ℕ) → join-lts.Need-returns-7 (
-  take-up-reads.Asked,
-  take-up-reads.Learnt,
-  bind-reads.Asked,
-  bind-reads.Learnt,
-  join-below t,
-  join.Post,
-) (join-at t) join.Post
-join-returns-7 t c = ?
+join-same-length-7 : (t : ℕ) → join-lts.Need-same-length-7 (join-env t) (join-at t) join.Post
+join-same-length-7 t c = search needs
 
--- src/lib.rt:358:1
-join-same-length-8 : (t : ℕ) → join-lts.Need-same-length-8 (
-  take-up-reads.Asked,
-  take-up-reads.Learnt,
-  bind-reads.Asked,
-  bind-reads.Learnt,
-  join-below t,
-  join.Post,
-) (join-at t) join.Post
-join-same-length-8 t c = ?
+join-returns-7 : (t : ℕ) → join-lts.Need-returns-7 (join-env t) (join-at t) join.Post
+unfolding taken
+join-returns-7 t c = c .before .before .join .ensures ∙ sym (unify-one _ _ _ _ _ _ _ _ (sym (c .before .before .before .before .before .before .before .before .take-up .ensures) ∙ ap taken (c .before .before .before .before .before .before .pair4 .given .1)))
 
--- src/lib.rt:358:1
-join-returns-8 : (t : ℕ) → join-lts.Need-returns-8 (
-  take-up-reads.Asked,
-  take-up-reads.Learnt,
-  bind-reads.Asked,
-  bind-reads.Learnt,
-  join-below t,
-  join.Post,
-) (join-at t) join.Post
-join-returns-8 t c = ?
+join-same-length-8 : (t : ℕ) → join-lts.Need-same-length-8 (join-env t) (join-at t) join.Post
+join-same-length-8 t c = search needs
+
+join-returns-8 : (t : ℕ) → join-lts.Need-returns-8 (join-env t) (join-at t) join.Post
+unfolding taken
+join-returns-8 t c = c .before .before .join3 .ensures ∙ sym (unify-right _ _ _ _ _ _ _ _ _ _ (sym (c .before .before .before .before .before .before .before .before .before .before .before .before .before .before .take-up .ensures) ∙ ap taken (c .before .before .before .before .before .before .before .before .before .before .before .before .pair5 .given .1)) _ _ (sym (c .before .before .before .before .before .before .before .before .join2 .ensures) ∙ unified-zero _ _ _ (c .before .before .before .before .before .if1 .left)))
 
 pub +join-spec : {M : Type 1} → statement M
-+join-spec = close μ-join λ t. join-lts.spec (
-  take-up-reads.Asked,
-  take-up-reads.Learnt,
-  bind-reads.Asked,
-  bind-reads.Learnt,
-  join-below t,
-  join.Post,
-)
++join-spec = close μ-join λ t. join-lts.spec (join-env t)
     (join-at t)
     join.Post
     (join-take-up-requires t)

@@ -1,3 +1,10 @@
+use mathlib.Core.Path.{sym, _∙_, ap}
+use native.Mathlib.Omega.{arith}
+use lib.ListN.{length-set}
+use Rattle.unification.specs.Arena.{bindAt}
+use Rattle.unification.specs.Code.{assign-circular, assign-spent, assign-broken, assign-bound}
+use Rattle.unifier.specs.Answers.{unifiedAs}
+use Rattle.unifier.proofs.Laws.{told-yes, told-no, told-spent, told-broken}
 use borrow.Author.Needs.{needs}
 use Rattle.unifier.proofs.bind.Statement.{statement}
 use Rattle.unifier.proofs.bind.Tie as tie
@@ -35,7 +42,7 @@ mul-words-2 c = search needs
 
 -- src/lib.rt:348:9
 slice-write-words-2 : tie.Need-slice-write-words-2
-slice-write-words-2 c = ?
+slice-write-words-2 c = simp length-set (omega arith)
 
 -- src/lib.rt:349:9
 same-length : tie.Need-same-length
@@ -43,7 +50,8 @@ same-length c = search needs
 
 -- src/lib.rt:349:9
 returns : tie.Need-returns
-returns c = ?
+unfolding unifiedAs bindAt
+returns c = sym (assign-bound _ _ _ _ _ _ (sym (c .before .before .seek .ensures) ∙ told-no _ _ (c .before .if1 .taken)))
 
 -- src/lib.rt:352:9
 same-length-2 : tie.Need-same-length-2
@@ -51,15 +59,26 @@ same-length-2 c = search needs
 
 -- src/lib.rt:352:9
 returns-2 : tie.Need-returns-2
-returns-2 c = ?
+unfolding unifiedAs
+returns-2 c = sym (assign-circular _ _ _ _ _ _ (sym (c .before .before .seek .ensures) ∙ told-yes _ _ (c .if2 .taken)))
 
--- src/lib.rt:340:1
+-- src/lib.rt:355:9
 same-length-3 : tie.Need-same-length-3
 same-length-3 c = search needs
 
--- src/lib.rt:340:1
+-- src/lib.rt:355:9
 returns-3 : tie.Need-returns-3
-returns-3 c = ?
+unfolding unifiedAs
+returns-3 c = sym (assign-spent _ _ _ _ _ (sym (c .before .before .before .seek .ensures) ∙ told-spent _ _ (c .if3 .taken)))
+
+-- src/lib.rt:340:1
+same-length-4 : tie.Need-same-length-4
+same-length-4 c = search needs
+
+-- src/lib.rt:340:1
+returns-4 : tie.Need-returns-4
+unfolding unifiedAs
+returns-4 c = sym (assign-broken _ _ _ _ _ (sym (c .before .before .before .seek .ensures) ∙ told-broken _ _ (c .before .if2 .left) (c .before .before .if1 .left) (c .if3 .left)))
 
 pub bind-spec : {M : Type 1} → statement M
 bind-spec =
@@ -78,4 +97,6 @@ bind-spec =
     same-length-2
     returns-2
     same-length-3
-    returns-3)
+    returns-3
+    same-length-4
+    returns-4)

@@ -1,3 +1,4 @@
+use mathlib.Core.Path.{_∙_}
 use borrow.Author.Needs.{needs}
 use Rattle.unifier.proofs.occurs.Statement.{statement}
 use Rattle.unifier.proofs.occurs.Tie as tie
@@ -16,7 +17,7 @@ tell-requires c κs = search needs
 
 -- src/lib.rt:274:1
 returns : tie.Need-returns
-returns c = ?
+returns c = c .tell .ensures ∙ c .before .seek .ensures
 
 pub occurs-spec : {M : Type 1} → statement M
 occurs-spec = tie.close (tie.spec seek-requires tell-requires returns)

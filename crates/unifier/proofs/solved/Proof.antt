@@ -1,3 +1,4 @@
+use mathlib.Core.Path.{_∙_}
 use borrow.Author.Needs.{needs}
 use Rattle.unifier.proofs.solved.Statement.{statement}
 use Rattle.unifier.proofs.solved.Tie as tie
@@ -16,7 +17,7 @@ tell-requires c κs = search needs
 
 -- src/lib.rt:435:1
 returns : tie.Need-returns
-returns c = ?
+returns c = c .tell .ensures ∙ c .before .test .ensures
 
 pub solved-spec : {M : Type 1} → statement M
 solved-spec = tie.close (tie.spec test-requires tell-requires returns)
