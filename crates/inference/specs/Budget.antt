@@ -19,7 +19,8 @@ use Rattle.inference.specs.Answer.{Answer, refused, written}
 use Rattle.inference.specs.Finish.{Outcome, typed, failed}
 use Rattle.inference.specs.Infer.{either, zeros, concluded, fitting, answer, answered, inferOf, outputAfter, workAfter}
 use Rattle.inference.specs.Conclude.{size, Concluded, concluded-wider, concluded-exact, concluded-full, Ended, ended-spent, ended-full, ended-done, concluded-ends}
-use Rattle.inference.specs.Numbers.{Sized, Walks, ending, Row, row-2, row-3, row-4, row-5-environment, row-5-formula, row-6, row-7, row-8, row-0-1, walks-answer, rows, after-2, after-other, answer-size, answer-fits}
+use Rattle.inference.specs.Sizes.{Sized}
+use Rattle.inference.specs.Numbers.{Walks, ending, Row, row-2, row-3, row-4, row-5-environment, row-5-formula, row-6, row-7, row-8, row-0-1, walks-answer, rows, after-2, after-other, answer-size, answer-fits}
 
 -- ---- what a formula's conclusion is and costs, whatever the capacity and the budget
 module _ (Γ : Env) (f : Formula) where
@@ -131,8 +132,8 @@ module _ (formula environment : List ℕ) (names capacity budget room work : ℕ
   given-row a (row-2 h) n e = absurd (omega arith)
   given-row a (row-3 s p q) n e = absurd (omega arith)
   given-row a (row-5-environment s p q) n e = absurd (omega arith)
-  given-row a (row-4 s st es q p q′) n e = absurd (omega arith)
-  given-row a (row-5-formula s st es q p q′) n e = absurd (omega arith)
+  given-row a (row-4 s es q p q′) n e = absurd (omega arith)
+  given-row a (row-5-formula s es q p q′) n e = absurd (omega arith)
   given-row a (row-6 w q) n e = absurd (omega arith)
   given-row a (row-7 w q) n e = absurd (omega arith)
   given-row a (row-8 w o left q l) n e = absurd (omega arith)
@@ -160,8 +161,6 @@ module _ (formula environment : List ℕ) (names capacity budget room work : ℕ
       sizes = sizes;
       entries = given .walks .entries;
       tree = given .walks .tree;
-      end = given .walks .end;
-      end′ = given .walks .end′;
       environment-read = given .walks .environment-read;
       formula-read = given .walks .formula-read;
     }

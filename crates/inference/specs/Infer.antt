@@ -11,14 +11,13 @@ use Rattle.formula.specs.declared.Fault.{Fault}
 use Rattle.formula.specs.declared.Fault.the-variants.{Malformed, Beyond}
 use Rattle.formula.specs.Tree.{Formula}
 use Rattle.formula.specs.Environment.{Env, Entries, lookup, spellEntries}
-use Rattle.formula.specs.Reader.{Got, ok, bad}
-use Rattle.formula.specs.Parse.{whole}
+use Rattle.formula.specs.Parse.{Parsed, parsed, too-long, faulty, parseOf}
+use Rattle.formula.specs.EnvParse.{environmentOf}
 use Rattle.unification.specs.Arena.{U}
 use Rattle.unification.specs.Ops.{nodes, exec}
 use Rattle.walk.specs.Walk.{walked}
 use Rattle.walk.specs.Verdict.{start}
 use Rattle.inference.specs.Answer.{Answer, refused, written, spellProblems, spellSlots}
-use Rattle.inference.specs.Entries.{environmentOf}
 use Rattle.inference.specs.Finish.{Outcome, typed, failed, finish}
 
 -- the first where the test holds, else the second
@@ -56,21 +55,23 @@ answered budget room (halt full e) = refused 6 0
 answered budget room (halt broken e) = refused 2 0
 
 -- ---- 3, 4 and 5: a fault of form, by the number of what is malformed
-unfoldable pub faulty : ℕ → Fault → Answer
-faulty number (Malformed p) = refused number (p .0)
-faulty number (Beyond p) = refused 5 (p .0)
+unfoldable pub blamed : ℕ → Fault → Answer
+blamed number (Malformed p) = refused number (p .0)
+blamed number (Beyond p) = refused 5 (p .0)
 
 -- the environment's first fault, then the formula's, then the walk
-unfoldable pub formed : ℕ → ℕ → ℕ → Got Entries → Got Formula → Answer
-formed capacity budget room (bad fault) formula = faulty 3 fault
-formed capacity budget room (ok st entries) (bad fault) = faulty 4 fault
-formed capacity budget room (ok st entries) (ok st′ f) = answered budget room (concluded capacity (lookup entries) f budget)
+unfoldable pub formed : ℕ → ℕ → ℕ → Parsed Entries → Parsed Formula → Answer
+formed capacity budget room too-long formula = refused 2 0
+formed capacity budget room (faulty fault) formula = blamed 3 fault
+formed capacity budget room (parsed entries) too-long = refused 2 0
+formed capacity budget room (parsed entries) (faulty fault) = blamed 4 fault
+formed capacity budget room (parsed entries) (parsed f) = answered budget room (concluded capacity (lookup entries) f budget)
 
 -- ---- the entry. room: the output's length; work: the work slice's
 unfoldable pub inferOf : (formula environment : List ℕ) (names capacity budget room work : ℕ) → Answer
 inferOf formula environment names capacity budget room work =
     either (sized (length formula) (length environment) names capacity work)
-    (formed capacity budget room (environmentOf names environment) (whole names formula))
+    (formed capacity budget room (environmentOf names environment) (parseOf names formula))
     (refused 2 0)
 
 -- ---- output and work afterwards: after number 2 as they were; else the answer's bytes, then zeros, and all zeros

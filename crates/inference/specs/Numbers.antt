@@ -11,58 +11,24 @@ use mathlib.Core.Bool.{Bool, true, false, _&&_}
 use mathlib.Core.List.{List, [], _∷_, _++_}
 use native.Mathlib.Omega.{arith}
 use native.Mathlib.Decide.{decLe, ℕ-discrete}
-use lib.Dec.{leb, eqb}
+use lib.Dec.{eqb}
 use lib.ListN.{length, replicate, length-append, length-replicate}
-use borrow.Author.Tests.{leb-true, le-leb, lt-leb, eq-eqb, ne-eqb}
+use borrow.Author.Tests.{le-leb, lt-leb, eq-eqb, ne-eqb}
 use Rattle.meter.specs.Meter.{Out, spent, halt, done, Why, broken, full, M}
 use Rattle.types.specs.declared.Place.{Place}
-use Rattle.formula.specs.declared.St.{St}
 use Rattle.formula.specs.declared.Fault.{Fault}
 use Rattle.formula.specs.declared.Fault.the-variants.{Malformed, Beyond}
 use Rattle.formula.specs.Tree.{Formula}
 use Rattle.formula.specs.Environment.{Env, Entries, lookup}
-use Rattle.formula.specs.Reader.{Got, ok, bad}
-use Rattle.formula.specs.Parse.{whole}
+use Rattle.formula.specs.Parse.{Parsed, parsed, too-long, faulty, parseOf}
+use Rattle.formula.specs.EnvParse.{environmentOf}
 use Rattle.unification.specs.Arena.{U}
-use Rattle.unification.specs.Trees.{and-left, and-right}
 use Rattle.inference.specs.Answer.{Answer, refused, written}
-use Rattle.inference.specs.Entries.{environmentOf}
 use Rattle.inference.specs.Finish.{Outcome, typed, failed}
-use Rattle.inference.specs.Infer.{either, zeros, sized, concluded, fitting, answer, answered, faulty, formed, inferOf, outputAfter, workAfter}
+use Rattle.inference.specs.Infer.{either, zeros, sized, concluded, fitting, answer, answered, blamed, formed, inferOf, outputAfter, workAfter}
+pub use Rattle.inference.specs.Sizes.{Sized}
+use Rattle.inference.specs.Sizes.{sized-holds, long-environment, long-formula}
 use Rattle.inference.specs.Conclude.{size, concluded-exact, concluded-full, Ended, ended-spent, ended-full, ended-done, concluded-ends}
-
--- ---- the sizes of row 2: lengths of formula and environment, count of names, capacity, length of the work slice
-pub record Sized (formula environment names capacity work : ℕ) : Type 0 where
-  pub formula-short : formula ≤ 16384
-  pub environment-short : environment ≤ 16384
-  pub names-few : names ≤ 256
-  pub capacity-some : 1 ≤ capacity
-  pub capacity-small : capacity ≤ 32768
-  pub work-long : 3 * capacity + 4096 ≤ work
-
-six : (a b c d e f : Bool) → a && b && c && d && e && f ≡ true → (a ≡ true) × (b ≡ true) × (c ≡ true) × (d ≡ true) × (e ≡ true) × (f ≡ true)
-six a b c d e f t =
-    let t₅ = and-left (a && b && c && d && e) f t in
-    let t₄ = and-left (a && b && c && d) e t₅ in
-    let t₃ = and-left (a && b && c) d t₄ in
-    let t₂ = and-left (a && b) c t₃ in
-    (and-left a b t₂, and-right a b t₂, and-right (a && b) c t₃, and-right (a && b && c) d t₄, and-right (a && b && c && d) e t₅, and-right (a && b && c && d && e) f t)
-
-pub sized-holds : (f e n c w : ℕ) → Sized f e n c w ↔ (sized f e n c w ≡ true)
-unfolding sized
-sized-holds f e n c w = (
-  λ s. rw (le-leb f 16384 (s .formula-short), le-leb e 16384 (s .environment-short), le-leb n 256 (s .names-few), le-leb 1 c (s .capacity-some), le-leb c 32768 (s .capacity-small), le-leb (3 * c + 4096) w (s .work-long)) refl,
-  λ t. (
-      let h = six (leb f 16384) (leb e 16384) (leb n 256) (leb 1 c) (leb c 32768) (leb (3 * c + 4096) w) t in
-      record {
-        formula-short = leb-true f 16384 (h .0);
-        environment-short = leb-true e 16384 (h .1);
-        names-few = leb-true n 256 (h .2);
-        capacity-some = leb-true 1 c (h .3);
-        capacity-small = leb-true c 32768 (h .4);
-        work-long = leb-true (3 * c + 4096) w (h .5);
-      }),
-)
 
 -- ---- the rows
 module _ (formula environment : List ℕ) (names capacity budget room work : ℕ) where
@@ -74,10 +40,8 @@ module _ (formula environment : List ℕ) (names capacity budget room work : ℕ
     pub sizes : SizesHold
     pub entries : Entries
     pub tree : Formula
-    pub end : St
-    pub end′ : St
-    pub environment-read : environmentOf names environment ≡ ok end entries
-    pub formula-read : whole names formula ≡ ok end′ tree
+    pub environment-read : environmentOf names environment ≡ parsed entries
+    pub formula-read : parseOf names formula ≡ parsed tree
 
   -- how the walk and the finish of it end
   abbrev pub ending : Walks → Out U Outcome
@@ -85,10 +49,10 @@ module _ (formula environment : List ℕ) (names capacity budget room work : ℕ
 
   pub data Row : Answer → Type 0 where
     row-2 : (SizesHold → ⊥) → Row (refused 2 0)
-    row-3 : SizesHold → (p : Place) → environmentOf names environment ≡ bad (Malformed p) → Row (refused 3 (p .0))
-    row-5-environment : SizesHold → (p : Place) → environmentOf names environment ≡ bad (Beyond p) → Row (refused 5 (p .0))
-    row-4 : SizesHold → (st : St) (entries : Entries) → environmentOf names environment ≡ ok st entries → (p : Place) → whole names formula ≡ bad (Malformed p) → Row (refused 4 (p .0))
-    row-5-formula : SizesHold → (st : St) (entries : Entries) → environmentOf names environment ≡ ok st entries → (p : Place) → whole names formula ≡ bad (Beyond p) → Row (refused 5 (p .0))
+    row-3 : SizesHold → (p : Place) → environmentOf names environment ≡ faulty (Malformed p) → Row (refused 3 (p .0))
+    row-5-environment : SizesHold → (p : Place) → environmentOf names environment ≡ faulty (Beyond p) → Row (refused 5 (p .0))
+    row-4 : SizesHold → (entries : Entries) → environmentOf names environment ≡ parsed entries → (p : Place) → parseOf names formula ≡ faulty (Malformed p) → Row (refused 4 (p .0))
+    row-5-formula : SizesHold → (entries : Entries) → environmentOf names environment ≡ parsed entries → (p : Place) → parseOf names formula ≡ faulty (Beyond p) → Row (refused 5 (p .0))
     row-6 : (w : Walks) → ending w ≡ halt full tt → Row (refused 6 0)
     row-7 : (w : Walks) → ending w ≡ spent tt → Row (refused 7 0)
     row-8 : (w : Walks) (o : Outcome) (left : ℕ) → ending w ≡ done o left → room < answer (budget - left) o .size → Row (refused 8 0)
@@ -109,17 +73,19 @@ module _ (formula environment : List ℕ) (names capacity budget room work : ℕ
   ended w o e (ended-full l) = row-6 w e
   ended w o e (ended-done l q left c) = fitted w q left e (decLe (answer (budget - left) q .size) room)
 
-  read : SizesHold → (es : Got Entries) (t : Got Formula) → environmentOf names environment ≡ es → whole names formula ≡ t → Row (formed capacity budget room es t)
-  unfolding formed faulty
-  read s (bad (Malformed p)) t e e′ = row-3 s p e
-  read s (bad (Beyond p)) t e e′ = row-5-environment s p e
-  read s (ok st es) (bad (Malformed p)) e e′ = row-4 s st es e p e′
-  read s (ok st es) (bad (Beyond p)) e e′ = row-5-formula s st es e p e′
-  read s (ok st es) (ok st′ f) e e′ = ended (record { sizes = s; entries = es; tree = f; end = st; end′ = st′; environment-read = e; formula-read = e′ }) _ refl (concluded-ends (lookup es) f capacity budget)
+  read : SizesHold → (es : Parsed Entries) (t : Parsed Formula) → environmentOf names environment ≡ es → parseOf names formula ≡ t → Row (formed capacity budget room es t)
+  unfolding formed blamed
+  read s too-long t e e′ = absurd (long-environment names environment e (s .environment-short))
+  read s (faulty (Malformed p)) t e e′ = row-3 s p e
+  read s (faulty (Beyond p)) t e e′ = row-5-environment s p e
+  read s (parsed es) too-long e e′ = absurd (long-formula names formula e′ (s .formula-short))
+  read s (parsed es) (faulty (Malformed p)) e e′ = row-4 s es e p e′
+  read s (parsed es) (faulty (Beyond p)) e e′ = row-5-formula s es e p e′
+  read s (parsed es) (parsed f) e e′ = ended (record { sizes = s; entries = es; tree = f; environment-read = e; formula-read = e′ }) _ refl (concluded-ends (lookup es) f capacity budget)
 
-  sizes : (c : Bool) → sized (length formula) (length environment) names capacity work ≡ c → Row (either c (formed capacity budget room (environmentOf names environment) (whole names formula)) (refused 2 0))
+  sizes : (c : Bool) → sized (length formula) (length environment) names capacity work ≡ c → Row (either c (formed capacity budget room (environmentOf names environment) (parseOf names formula)) (refused 2 0))
   unfolding either
-  sizes true e = read (sized-holds (length formula) (length environment) names capacity work .1 e) (environmentOf names environment) (whole names formula) refl refl
+  sizes true e = read (sized-holds (length formula) (length environment) names capacity work .1 e) (environmentOf names environment) (parseOf names formula) refl refl
   sizes false e = row-2 (λ s. (let z : _≡_ {A = Bool} true false = sym (sized-holds (length formula) (length environment) names capacity work .0 s) ∙ e in let y : _≡_ {A = ℕ} 0 1 = cc in omega arith))
 
   first-row : Row A
@@ -127,7 +93,7 @@ module _ (formula environment : List ℕ) (names capacity budget room work : ℕ
   first-row = sizes (sized (length formula) (length environment) names capacity work) refl
 
   -- and no other answer is given where a row holds
-  sized-answer : SizesHold → A ≡ formed capacity budget room (environmentOf names environment) (whole names formula)
+  sized-answer : SizesHold → A ≡ formed capacity budget room (environmentOf names environment) (parseOf names formula)
   unfolding inferOf either
   sized-answer s = rw (sized-holds (length formula) (length environment) names capacity work .0 s) refl
 
@@ -135,18 +101,18 @@ module _ (formula environment : List ℕ) (names capacity budget room work : ℕ
   unfolding formed
   walks-answer w = sized-answer (w .sizes) ∙ ap₂ (formed capacity budget room) (w .environment-read) (w .formula-read)
 
-  not-sized : (SizesHold → ⊥) → (c : Bool) → sized (length formula) (length environment) names capacity work ≡ c → either c (formed capacity budget room (environmentOf names environment) (whole names formula)) (refused 2 0) ≡ refused 2 0
+  not-sized : (SizesHold → ⊥) → (c : Bool) → sized (length formula) (length environment) names capacity work ≡ c → either c (formed capacity budget room (environmentOf names environment) (parseOf names formula)) (refused 2 0) ≡ refused 2 0
   unfolding either
   not-sized h true e = absurd (h (sized-holds (length formula) (length environment) names capacity work .1 e))
   not-sized h false e = refl
 
   row-given : (a : Answer) → Row a → A ≡ a
-  unfolding inferOf formed faulty answered fitting either
+  unfolding inferOf formed blamed answered fitting either
   row-given a (row-2 h) = not-sized h (sized (length formula) (length environment) names capacity work) refl
-  row-given a (row-3 s p e) = sized-answer s ∙ ap (λ (g : Got Entries). formed capacity budget room g (whole names formula)) e
-  row-given a (row-5-environment s p e) = sized-answer s ∙ ap (λ (g : Got Entries). formed capacity budget room g (whole names formula)) e
-  row-given a (row-4 s st es e p e′) = sized-answer s ∙ ap₂ (formed capacity budget room) e e′
-  row-given a (row-5-formula s st es e p e′) = sized-answer s ∙ ap₂ (formed capacity budget room) e e′
+  row-given a (row-3 s p e) = sized-answer s ∙ ap (λ (g : Parsed Entries). formed capacity budget room g (parseOf names formula)) e
+  row-given a (row-5-environment s p e) = sized-answer s ∙ ap (λ (g : Parsed Entries). formed capacity budget room g (parseOf names formula)) e
+  row-given a (row-4 s es e p e′) = sized-answer s ∙ ap₂ (formed capacity budget room) e e′
+  row-given a (row-5-formula s es e p e′) = sized-answer s ∙ ap₂ (formed capacity budget room) e e′
   row-given a (row-6 w e) = walks-answer w ∙ ap (answered budget room) e
   row-given a (row-7 w e) = walks-answer w ∙ ap (answered budget room) e
   row-given a (row-8 w o left e l) = walks-answer w ∙ ap (answered budget room) e ∙ ap (λ (c : Bool). either c (answer (budget - left) o) (refused 8 0)) (lt-leb (answer (budget - left) o .size) room l)
@@ -167,8 +133,8 @@ module _ (formula environment : List ℕ) (names capacity budget room work : ℕ
   two-sizes a (row-2 h) e s = h s
   two-sizes a (row-3 s p q) e s′ = omega arith
   two-sizes a (row-5-environment s p q) e s′ = omega arith
-  two-sizes a (row-4 s st es q p q′) e s′ = omega arith
-  two-sizes a (row-5-formula s st es q p q′) e s′ = omega arith
+  two-sizes a (row-4 s es q p q′) e s′ = omega arith
+  two-sizes a (row-5-formula s es q p q′) e s′ = omega arith
   two-sizes a (row-6 w q) e s′ = omega arith
   two-sizes a (row-7 w q) e s′ = omega arith
   two-sizes a (row-8 w o left q l) e s′ = omega arith
@@ -191,8 +157,8 @@ module _ (formula environment : List ℕ) (names capacity budget room work : ℕ
   eight-long a (row-2 h) e = absurd (omega arith)
   eight-long a (row-3 s p q) e = absurd (omega arith)
   eight-long a (row-5-environment s p q) e = absurd (omega arith)
-  eight-long a (row-4 s st es q p q′) e = absurd (omega arith)
-  eight-long a (row-5-formula s st es q p q′) e = absurd (omega arith)
+  eight-long a (row-4 s es q p q′) e = absurd (omega arith)
+  eight-long a (row-5-formula s es q p q′) e = absurd (omega arith)
   eight-long a (row-6 w q) e = absurd (omega arith)
   eight-long a (row-7 w q) e = absurd (omega arith)
   eight-long a (row-8 w o left q l) e = (w, o, left, q, l)
@@ -214,8 +180,8 @@ module _ (formula environment : List ℕ) (names capacity budget room work : ℕ
   row-size a (row-2 h) = refl
   row-size a (row-3 s p q) = refl
   row-size a (row-5-environment s p q) = refl
-  row-size a (row-4 s st es q p q′) = refl
-  row-size a (row-5-formula s st es q p q′) = refl
+  row-size a (row-4 s es q p q′) = refl
+  row-size a (row-5-formula s es q p q′) = refl
   row-size a (row-6 w q) = refl
   row-size a (row-7 w q) = refl
   row-size a (row-8 w o left q l) = refl
@@ -226,8 +192,8 @@ module _ (formula environment : List ℕ) (names capacity budget room work : ℕ
   row-fits a (row-2 h) = omega arith
   row-fits a (row-3 s p q) = omega arith
   row-fits a (row-5-environment s p q) = omega arith
-  row-fits a (row-4 s st es q p q′) = omega arith
-  row-fits a (row-5-formula s st es q p q′) = omega arith
+  row-fits a (row-4 s es q p q′) = omega arith
+  row-fits a (row-5-formula s es q p q′) = omega arith
   row-fits a (row-6 w q) = omega arith
   row-fits a (row-7 w q) = omega arith
   row-fits a (row-8 w o left q l) = omega arith
@@ -238,8 +204,8 @@ module _ (formula environment : List ℕ) (names capacity budget room work : ℕ
   row-refuses a (row-2 h) e = refl
   row-refuses a (row-3 s p q) e = refl
   row-refuses a (row-5-environment s p q) e = refl
-  row-refuses a (row-4 s st es q p q′) e = refl
-  row-refuses a (row-5-formula s st es q p q′) e = refl
+  row-refuses a (row-4 s es q p q′) e = refl
+  row-refuses a (row-5-formula s es q p q′) e = refl
   row-refuses a (row-6 w q) e = refl
   row-refuses a (row-7 w q) e = refl
   row-refuses a (row-8 w o left q l) e = refl
