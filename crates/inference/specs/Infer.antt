@@ -47,7 +47,7 @@ unfoldable pub answer : ℕ → Outcome → Answer
 answer steps (typed entries types) = written 0 steps (spellEntries entries ++ spellSlots types)
 answer steps (failed problems) = written 1 steps (spellProblems problems)
 
--- the steps are what of the budget is not left
+-- the steps are what of the budget is not left; no reference leaves the arena, so the last case never comes up (`concluded-ends`)
 unfoldable pub answered : ℕ → ℕ → Out U Outcome → Answer
 answered budget room (done o left) = fitting room (answer (budget - left) o)
 answered budget room (spent e) = refused 7 0
@@ -59,7 +59,7 @@ unfoldable pub blamed : ℕ → Fault → Answer
 blamed number (Malformed p) = refused number (p .0)
 blamed number (Beyond p) = refused 5 (p .0)
 
--- the environment's first fault, then the formula's, then the walk
+-- the environment's first fault, then the formula's, then the walk; a stream inside the sizes is not too long (`long-environment`, `long-formula`)
 unfoldable pub formed : ℕ → ℕ → ℕ → Parsed Entries → Parsed Formula → Answer
 formed capacity budget room too-long formula = refused 2 0
 formed capacity budget room (faulty fault) formula = blamed 3 fault
