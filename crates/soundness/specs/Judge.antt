@@ -98,10 +98,7 @@ module _ (Γ : Env) (f : Formula) (steps : ℕ) where
   listing-untyped o v = (untyped-several o v, several-untyped o v)
 
   -- ---- what the formula excludes
-  excluded-some : {A : Type 0} (zs : List (ℕ × ℕ)) → zs ≡ [] → (z : ℕ × ℕ) → In z zs → A
-  excluded-some zs e z i = absurd (subst (In z) e i)
-
-  pub listing-excluded : (o : Outcome) → Verdict Γ f o → None Γ f → (ps : List Problem) × Lists (answer steps o) ps × ((z : ℕ × ℕ) → In z (excluded-of f) → SomeOf (λ p. p ≡ problemOf z) ps)
-  listing-excluded o (one es ss h k) g = absurd (g (h .0))
-  listing-excluded o (several qs h k) g = absurd (g (h .slots-one, h .names-one, h .one))
-  listing-excluded o (none qs h k m n) g = (qs, failed-lists qs, n)
+  pub listing-excluded : (o : Outcome) → Verdict Γ f o → None Γ f → (z : ℕ × ℕ) → In z (excluded-of f) → (ps : List Problem) × Lists (answer steps o) ps × SomeOf (λ p. p ≡ problemOf z) ps
+  listing-excluded o (one es ss h k) g z i = absurd (g (h .0))
+  listing-excluded o (several qs h k) g z i = absurd (g (h .slots-one, h .names-one, h .one))
+  listing-excluded o (none qs h k m n) g z i = (qs, failed-lists qs, n z i)

@@ -35,7 +35,17 @@ Untyped p = (p .kind ≡ 2) ⊎ (p .kind ≡ 3)
 abbrev pub Unfit : Problem → Type 0
 Unfit p = (p .kind ≡ 4) ⊎ (p .kind ≡ 5)
 
--- a problem of the walk, which names no name
+-- a problem and a place, among others
+abbrev pub Among : ℕ × ℕ → List (ℕ × ℕ) → Type 0
+Among z [] = ⊥
+Among z (y ∷ ys) = (z ≡ y) ⊎ Among z ys
+
+pub among-in : (z : ℕ × ℕ) (zs : List (ℕ × ℕ)) → Among z zs → In z zs
+among-in z [] h = h
+among-in z (y ∷ zs) (inl e) = inl e
+among-in z (y ∷ zs) (inr h) = inr (among-in z zs h)
+
+-- as a problem that names no name
 abbrev pub problemOf : ℕ × ℕ → Problem
 problemOf z = record { kind = z .0; place = z .1; name = nameless }
 

@@ -71,65 +71,65 @@ fitting-number room steps o = go (leb (answer steps o .size) room)
     go true = inl (outcome-below steps o)
     go false = inr refl
 
-module _ (formula environment : List ℕ) (names capacity budget room work : ℕ) (es : Entries) (f : Formula)
-    (reads : Reads formula environment names es f) (sizes : Sized (length formula) (length environment) names capacity work)
-  where
-    abbrev A : Answer
-    A = inferOf formula environment names capacity budget room work
+module _ (formula environment : List ℕ) (names capacity budget room work : ℕ) (es : Entries) (f : Formula) (reads : Reads formula environment names es f) (sizes : Sized (length formula) (length environment) names capacity work) where
+  abbrev A : Answer
+  A = inferOf formula environment names capacity budget room work
 
-    not-six-seven : {n : ℕ} → (n < 2) ⊎ (n ≡ 8) → (n ≡ 6) ⊎ (n ≡ 7) → ⊥
-    not-six-seven (inl l) (inl e) = omega arith
-    not-six-seven (inl l) (inr e) = omega arith
-    not-six-seven (inr l) (inl e) = omega arith
-    not-six-seven (inr l) (inr e) = omega arith
+  not-six-seven : {n : ℕ} → (n < 2) ⊎ (n ≡ 8) → (n ≡ 6) ⊎ (n ≡ 7) → ⊥
+  not-six-seven (inl l) (inl e) = omega arith
+  not-six-seven (inl l) (inr e) = omega arith
+  not-six-seven (inr l) (inl e) = omega arith
+  not-six-seven (inr l) (inr e) = omega arith
 
-    paid : size (lookup es) f ≤ capacity → price (lookup es) f ≤ budget → (A .number < 2) ⊎ (A .number ≡ 8)
-    paid l q = subst (λ (a : Answer). (a .number < 2) ⊎ (a .number ≡ 8)) (sym (nodes-fit formula environment names capacity budget room work (walks formula environment names capacity budget room work es f reads sizes) l .1 q))
-        (fitting-number room (price (lookup es) f) (outcome (lookup es) f))
+  -- the nodes fit and the price is there: an answer, unless it is longer than the output
+  pub fits-answered : size (lookup es) f ≤ capacity → price (lookup es) f ≤ budget
+      → (inferOf formula environment names capacity budget room work .number < 2) ⊎ (inferOf formula environment names capacity budget room work .number ≡ 8)
+  fits-answered l q = subst (λ (a : Answer). (a .number < 2) ⊎ (a .number ≡ 8)) (sym (nodes-fit formula environment names capacity budget room work (walks formula environment names capacity budget room work es f reads sizes) l .1 q))
+      (fitting-number room (price (lookup es) f) (outcome (lookup es) f))
 
-    numbered : (n : ℕ) → A ≡ refused n 0 → A .number ≡ n
-    unfolding refused
-    numbered n e = ap (λ (a : Answer). a .number) e
+  numbered : (n : ℕ) → A ≡ refused n 0 → A .number ≡ n
+  unfolding refused
+  numbered n e = ap (λ (a : Answer). a .number) e
 
-    -- the nodes fit: 7 exactly below the price, and never 6
-    pub fits-seven : size (lookup es) f ≤ capacity → (inferOf formula environment names capacity budget room work .number ≡ 7) ↔ (budget < price (lookup es) f)
-    fits-seven l = (
-      λ e. at e (decLt budget (price (lookup es) f)),
-      λ b. numbered 7 (nodes-fit formula environment names capacity budget room work (walks formula environment names capacity budget room work es f reads sizes) l .0 b),
-    )
+  -- the nodes fit: 7 exactly below the price, and never 6
+  pub fits-seven : size (lookup es) f ≤ capacity → (inferOf formula environment names capacity budget room work .number ≡ 7) ↔ (budget < price (lookup es) f)
+  fits-seven l = (
+    λ e. at e (decLt budget (price (lookup es) f)),
+    λ b. numbered 7 (nodes-fit formula environment names capacity budget room work (walks formula environment names capacity budget room work es f reads sizes) l .0 b),
+  )
+    where
+      at : A .number ≡ 7 → Dec (budget < price (lookup es) f) → budget < price (lookup es) f
+      at e (yes b) = b
+      at e (no b) = absurd (not-six-seven (fits-answered l (omega arith)) (inr e))
+
+  pub fits-six : size (lookup es) f ≤ capacity → inferOf formula environment names capacity budget room work .number ≡ 6 → ⊥
+  fits-six l e = at (decLt budget (price (lookup es) f))
+    where
+      at : Dec (budget < price (lookup es) f) → ⊥
+      at (yes b) = let q = numbered 7 (nodes-fit formula environment names capacity budget room work (walks formula environment names capacity budget room work es f reads sizes) l .0 b) in omega arith
+      at (no b) = not-six-seven (fits-answered l (omega arith)) (inl e)
+
+  -- they do not fit: 7 exactly until the capacity is used, then 6
+  module _ (l : capacity < size (lookup es) f) where
+    until : budget < fill (lookup es) f capacity l → A .number ≡ 7
+    until b = numbered 7 (nodes-full formula environment names capacity budget room work (walks formula environment names capacity budget room work es f reads sizes) l .0 b)
+
+    then : fill (lookup es) f capacity l ≤ budget → A .number ≡ 6
+    then b = numbered 6 (nodes-full formula environment names capacity budget room work (walks formula environment names capacity budget room work es f reads sizes) l .1 b)
+
+    pub full-seven : (inferOf formula environment names capacity budget room work .number ≡ 7) ↔ (budget < fill (lookup es) f capacity l)
+    full-seven = (λ e. at e (decLt budget (fill (lookup es) f capacity l)), until)
       where
-        at : A .number ≡ 7 → Dec (budget < price (lookup es) f) → budget < price (lookup es) f
+        at : A .number ≡ 7 → Dec (budget < fill (lookup es) f capacity l) → budget < fill (lookup es) f capacity l
         at e (yes b) = b
-        at e (no b) = absurd (not-six-seven (paid l (omega arith)) (inr e))
+        at e (no b) = let q = then (omega arith) in absurd (omega arith)
 
-    pub fits-six : size (lookup es) f ≤ capacity → inferOf formula environment names capacity budget room work .number ≡ 6 → ⊥
-    fits-six l e = at (decLt budget (price (lookup es) f))
+    pub full-six : (inferOf formula environment names capacity budget room work .number ≡ 6) ↔ (fill (lookup es) f capacity l ≤ budget)
+    full-six = (λ e. at e (decLt budget (fill (lookup es) f capacity l)), then)
       where
-        at : Dec (budget < price (lookup es) f) → ⊥
-        at (yes b) = let q = numbered 7 (nodes-fit formula environment names capacity budget room work (walks formula environment names capacity budget room work es f reads sizes) l .0 b) in omega arith
-        at (no b) = not-six-seven (paid l (omega arith)) (inl e)
-
-    -- they do not fit: 7 exactly until the capacity is used, then 6
-    module _ (l : capacity < size (lookup es) f) where
-      until : budget < fill (lookup es) f capacity l → A .number ≡ 7
-      until b = numbered 7 (nodes-full formula environment names capacity budget room work (walks formula environment names capacity budget room work es f reads sizes) l .0 b)
-
-      then : fill (lookup es) f capacity l ≤ budget → A .number ≡ 6
-      then b = numbered 6 (nodes-full formula environment names capacity budget room work (walks formula environment names capacity budget room work es f reads sizes) l .1 b)
-
-      pub full-seven : (inferOf formula environment names capacity budget room work .number ≡ 7) ↔ (budget < fill (lookup es) f capacity l)
-      full-seven = (λ e. at e (decLt budget (fill (lookup es) f capacity l)), until)
-        where
-          at : A .number ≡ 7 → Dec (budget < fill (lookup es) f capacity l) → budget < fill (lookup es) f capacity l
-          at e (yes b) = b
-          at e (no b) = let q = then (omega arith) in absurd (omega arith)
-
-      pub full-six : (inferOf formula environment names capacity budget room work .number ≡ 6) ↔ (fill (lookup es) f capacity l ≤ budget)
-      full-six = (λ e. at e (decLt budget (fill (lookup es) f capacity l)), then)
-        where
-          at : A .number ≡ 6 → Dec (budget < fill (lookup es) f capacity l) → fill (lookup es) f capacity l ≤ budget
-          at e (yes b) = let q = until b in absurd (omega arith)
-          at e (no b) = omega arith
+        at : A .number ≡ 6 → Dec (budget < fill (lookup es) f capacity l) → fill (lookup es) f capacity l ≤ budget
+        at e (yes b) = let q = until b in absurd (omega arith)
+        at e (no b) = omega arith
 
 -- the steps of an answer 0 or 1 are the price
 pub steps-price : (formula environment : List ℕ) (names capacity budget room work : ℕ) (es : Entries) (f : Formula) → Reads formula environment names es f

@@ -30,66 +30,63 @@ use Rattle.formula.specs.Environment.{Env, Entries, lookup, spellEntries}
 use Rattle.typing.specs.Rules.{Typing}
 use Rattle.typing.specs.Typings.{Some, One, None, Several, name-entries, slot-entries, excluded-of}
 use Rattle.walk.specs.Excluded.{typed-allowed}
-use Rattle.unification.specs.Ops.{In}
 use Rattle.inference.specs.Answer.{Problem, spellSlots, Answer, refused}
 use Rattle.inference.specs.Infer.{answer, inferOf, outputAfter, zeros}
 use Rattle.inference.specs.Numbers.{Sized, after-other}
 use Rattle.inference.specs.Conclude.{size}
 use Rattle.inference.specs.Budget.{price, outcome, fill}
-use Rattle.soundness.specs.Listing.{Lists, AllOf, SomeOf, Clash, Untyped, problemOf}
+use Rattle.soundness.specs.Listing.{Lists, AllOf, SomeOf, Clash, Untyped, Among, among-in, problemOf}
 use Rattle.soundness.specs.Excluded.{excluded-kinds}
+use Rattle.soundness.specs.Verdict.{Verdict}
 use Rattle.soundness.specs.Calls.{Reads, answer-is, outcome-verdict}
 use Rattle.soundness.specs.Judge.{number-one, bytes-typing, listing-clash, listing-untyped, listing-excluded}
-use Rattle.soundness.specs.Price.{more-same, fewer-seven, least-steps, fits-seven, fits-six, full-seven, full-six, steps-price}
+use Rattle.soundness.specs.Price.{more-same, fewer-seven, least-steps, fits-answered, fits-seven, fits-six, full-seven, full-six, steps-price}
 
-module _ (formula environment : List ℕ) (names capacity budget room work : ℕ) (es : Entries) (f : Formula)
-    (reads : Reads formula environment names es f) (judged : inferOf formula environment names capacity budget room work .number ≤ 1)
-  where
-    -- the answer, and the environment that the bytes spell
-    abbrev A : Answer
-    A = inferOf formula environment names capacity budget room work
+module _ (formula environment : List ℕ) (names capacity budget room work : ℕ) (es : Entries) (f : Formula) (reads : Reads formula environment names es f) (judged : inferOf formula environment names capacity budget room work .number ≤ 1) where
+  -- the answer, and the environment that the bytes spell
+  abbrev A : Answer
+  A = inferOf formula environment names capacity budget room work
 
-    abbrev Γ : Env
-    Γ = lookup es
+  abbrev Γ : Env
+  Γ = lookup es
 
-    as-outcome : (P : Answer → Type 0) → P (answer (price Γ f) (outcome Γ f)) → P A
-    as-outcome P h = subst P (sym (answer-is formula environment names capacity budget room work es f reads judged)) h
+  -- (for the proofs: the answer is the outcome's, and the outcome's verdict is known)
+  as-outcome : (P : Answer → Type 0) → P (answer (price Γ f) (outcome Γ f)) → P A
+  as-outcome P h = subst P (sym (answer-is formula environment names capacity budget room work es f reads judged)) h
 
-    -- ---- E3: number 0 exactly if there is one and only one typing
-    pub typed-exactly : (A .number ≡ 0) ↔ One Γ f
-    typed-exactly = as-outcome (λ a. (a .number ≡ 0) ↔ One Γ f) (number-one Γ f (price Γ f) (outcome Γ f) (outcome-verdict formula environment names capacity budget room work es f reads judged))
+  verdict : Verdict Γ f (outcome Γ f)
+  verdict = outcome-verdict formula environment names capacity budget room work es f reads judged
 
-    -- E3: and the bytes spell that typing
-    pub typed-spelt : A .number ≡ 0 → (τ ρ : ℕ → Ty) → Typing Γ f τ ρ → A .bytes ≡ spellEntries (name-entries Γ f ρ) ++ spellSlots (slot-entries f τ)
-    typed-spelt = as-outcome (λ a. a .number ≡ 0 → (τ ρ : ℕ → Ty) → Typing Γ f τ ρ → a .bytes ≡ spellEntries (name-entries Γ f ρ) ++ spellSlots (slot-entries f τ))
-        (bytes-typing Γ f (price Γ f) (outcome Γ f) (outcome-verdict formula environment names capacity budget room work es f reads judged))
+  -- ---- E3: number 0 exactly if there is one and only one typing
+  pub typed-exactly : (A .number ≡ 0) ↔ One Γ f
+  typed-exactly = as-outcome (λ a. (a .number ≡ 0) ↔ One Γ f) (number-one Γ f (price Γ f) (outcome Γ f) verdict)
 
-    -- E3: so the output, whatever it held, begins with them, and zeros follow
-    pub typed-output : (output : List ℕ) → A .number ≡ 0 → (τ ρ : ℕ → Ty) → Typing Γ f τ ρ
-        → outputAfter A output ≡ (spellEntries (name-entries Γ f ρ) ++ spellSlots (slot-entries f τ)) ++ zeros (length output - length (spellEntries (name-entries Γ f ρ) ++ spellSlots (slot-entries f τ)))
-    typed-output output e τ ρ t = after-other A (λ q. omega arith) output [] .0 ∙ ap (λ (bs : List ℕ). bs ++ zeros (length output - length bs)) (typed-spelt e τ ρ t)
+  -- E3: and the bytes spell that typing
+  pub typed-spelt : A .number ≡ 0 → (τ ρ : ℕ → Ty) → Typing Γ f τ ρ → A .bytes ≡ spellEntries (name-entries Γ f ρ) ++ spellSlots (slot-entries f τ)
+  typed-spelt = as-outcome (λ a. a .number ≡ 0 → (τ ρ : ℕ → Ty) → Typing Γ f τ ρ → a .bytes ≡ spellEntries (name-entries Γ f ρ) ++ spellSlots (slot-entries f τ)) (bytes-typing Γ f (price Γ f) (outcome Γ f) verdict)
 
-    -- ---- E4: where the formula excludes nothing, a problem 0 or 1 is listed exactly if there is no typing
-    pub clash-exactly : excluded-of f ≡ [] → ((ps : List Problem) × Lists A ps × SomeOf Clash ps) ↔ None Γ f
-    clash-exactly = as-outcome (λ a. excluded-of f ≡ [] → ((ps : List Problem) × Lists a ps × SomeOf Clash ps) ↔ None Γ f)
-        (listing-clash Γ f (price Γ f) (outcome Γ f) (outcome-verdict formula environment names capacity budget room work es f reads judged))
+  -- E3: so the output, whatever it held, begins with them, and zeros follow
+  pub typed-output : (output : List ℕ) → A .number ≡ 0 → (τ ρ : ℕ → Ty) → Typing Γ f τ ρ
+      → outputAfter A output ≡ (spellEntries (name-entries Γ f ρ) ++ spellSlots (slot-entries f τ)) ++ zeros (length output - length (spellEntries (name-entries Γ f ρ) ++ spellSlots (slot-entries f τ)))
+  typed-output output e τ ρ t = after-other A (λ q. omega arith) output [] .0 ∙ ap (λ (bs : List ℕ). bs ++ zeros (length output - length bs)) (typed-spelt e τ ρ t)
 
-    -- ---- E5: only problems 2 and 3 are listed exactly if there are several typings; two different ones are exhibited
-    pub untyped-exactly : ((ps : List Problem) × Lists A ps × AllOf Untyped ps) ↔ Several Γ f
-    untyped-exactly = as-outcome (λ a. ((ps : List Problem) × Lists a ps × AllOf Untyped ps) ↔ Several Γ f)
-        (listing-untyped Γ f (price Γ f) (outcome Γ f) (outcome-verdict formula environment names capacity budget room work es f reads judged))
+  -- ---- E4: where the formula excludes nothing, a problem 0 or 1 is listed exactly if there is no typing
+  pub clash-exactly : excluded-of f ≡ [] → ((ps : List Problem) × Lists A ps × SomeOf Clash ps) ↔ None Γ f
+  clash-exactly = as-outcome (λ a. excluded-of f ≡ [] → ((ps : List Problem) × Lists a ps × SomeOf Clash ps) ↔ None Γ f) (listing-clash Γ f (price Γ f) (outcome Γ f) verdict)
 
-    -- ---- E6: a formula that excludes something has no typing; the answer is problems, and each thing excluded is among them
-    nothing-in : (z : ℕ × ℕ) → In z (excluded-of f) → None Γ f
-    nothing-in z i t = subst (In z) (typed-allowed Γ f t) i
+  -- ---- E5: only problems 2 and 3 are listed exactly if there are several typings, of which two different ones are exhibited
+  pub untyped-exactly : ((ps : List Problem) × Lists A ps × AllOf Untyped ps) ↔ Several Γ f
+  untyped-exactly = as-outcome (λ a. ((ps : List Problem) × Lists a ps × AllOf Untyped ps) ↔ Several Γ f) (listing-untyped Γ f (price Γ f) (outcome Γ f) verdict)
 
-    pub excluded-exactly : (z : ℕ × ℕ) → In z (excluded-of f)
-        → None Γ f × ((ps : List Problem) × Lists A ps × SomeOf (λ p. p ≡ problemOf z) ps) × ((z .0 ≡ 0) ⊎ (z .0 ≡ 4) ⊎ (z .0 ≡ 5))
-    excluded-exactly z i = (nothing-in z i, as-outcome (λ a. (ps : List Problem) × Lists a ps × SomeOf (λ p. p ≡ problemOf z) ps) (among (listing-excluded Γ f (price Γ f) (outcome Γ f) (outcome-verdict formula environment names capacity budget room work es f reads judged) (nothing-in z i))), excluded-kinds f z i)
-      where
-        among : ((ps : List Problem) × Lists (answer (price Γ f) (outcome Γ f)) ps × ((y : ℕ × ℕ) → In y (excluded-of f) → SomeOf (λ p. p ≡ problemOf y) ps))
-            → (ps : List Problem) × Lists (answer (price Γ f) (outcome Γ f)) ps × SomeOf (λ p. p ≡ problemOf z) ps
-        among h = (h .0, h .1, h .2 z i)
+  -- ---- E6: a formula that excludes something has no typing
+  pub excluded-none : (z : ℕ × ℕ) → Among z (excluded-of f) → None Γ f
+  excluded-none z i t = subst (λ (zs : List (ℕ × ℕ)). Among z zs) (typed-allowed Γ f t) i
+
+  -- E6: and its answer is problems, each thing excluded among them at its place: 4 an index, 5 an application, 0 an ascription to 4F
+  pub excluded-listed : (z : ℕ × ℕ) → Among z (excluded-of f) → ((z .0 ≡ 0) ⊎ (z .0 ≡ 4) ⊎ (z .0 ≡ 5)) × ((ps : List Problem) × Lists A ps × SomeOf (λ p. p ≡ problemOf z) ps)
+  excluded-listed z i =
+      let h = among-in z (excluded-of f) i in
+      (excluded-kinds f z h, as-outcome (λ a. (ps : List Problem) × Lists a ps × SomeOf (λ p. p ≡ problemOf z) ps) (listing-excluded Γ f (price Γ f) (outcome Γ f) verdict (excluded-none z i) z h))
 
 -- ---- E7: the steps of an answer 0 or 1
 module _ (formula environment : List ℕ) (names capacity budget room work : ℕ) (judged : inferOf formula environment names capacity budget room work .number ≤ 1) where
@@ -112,22 +109,25 @@ module _ (formula environment : List ℕ) (names capacity budget room work : ℕ
 
 -- ---- E7: 7 or 6, exactly which. The bytes are well formed and the sizes of row 2 hold. `size` is how many nodes the walk of the
 -- formula makes (counted record by record in crates/walk/specs/Nodes.antt); `price` and `fill` are units, and do not depend on the budget
-module _ (formula environment : List ℕ) (names capacity budget room work : ℕ) (es : Entries) (f : Formula)
-    (reads : Reads formula environment names es f) (sizes : Sized (length formula) (length environment) names capacity work)
-  where
-    -- the nodes fit: 7 exactly below the price, never 6; and the steps of an answer are the price
-    pub seven-fitting : size (lookup es) f ≤ capacity → (inferOf formula environment names capacity budget room work .number ≡ 7) ↔ (budget < price (lookup es) f)
-    seven-fitting l = fits-seven formula environment names capacity budget room work es f reads sizes l
+module _ (formula environment : List ℕ) (names capacity budget room work : ℕ) (es : Entries) (f : Formula) (reads : Reads formula environment names es f) (sizes : Sized (length formula) (length environment) names capacity work) where
+  -- the nodes fit: 7 exactly below the price, never 6; and the steps of an answer are the price
+  pub seven-fitting : size (lookup es) f ≤ capacity → (inferOf formula environment names capacity budget room work .number ≡ 7) ↔ (budget < price (lookup es) f)
+  seven-fitting l = fits-seven formula environment names capacity budget room work es f reads sizes l
 
-    pub six-fitting : size (lookup es) f ≤ capacity → inferOf formula environment names capacity budget room work .number ≡ 6 → ⊥
-    six-fitting l e = fits-six formula environment names capacity budget room work es f reads sizes l e
+  pub six-fitting : size (lookup es) f ≤ capacity → inferOf formula environment names capacity budget room work .number ≡ 6 → ⊥
+  six-fitting l e = fits-six formula environment names capacity budget room work es f reads sizes l e
 
-    pub steps-fitting : inferOf formula environment names capacity budget room work .number ≤ 1 → inferOf formula environment names capacity budget room work .steps ≡ price (lookup es) f
-    steps-fitting j = steps-price formula environment names capacity budget room work es f reads j
+  pub steps-fitting : inferOf formula environment names capacity budget room work .number ≤ 1 → inferOf formula environment names capacity budget room work .steps ≡ price (lookup es) f
+  steps-fitting j = steps-price formula environment names capacity budget room work es f reads j
 
-    -- they do not fit: 7 exactly until the capacity is used up, 6 from then on
-    pub seven-full : (l : capacity < size (lookup es) f) → (inferOf formula environment names capacity budget room work .number ≡ 7) ↔ (budget < fill (lookup es) f capacity l)
-    seven-full l = full-seven formula environment names capacity budget room work es f reads sizes l
+  -- from the price on the call is answered, unless the answer is longer than the output
+  pub answered-fitting : size (lookup es) f ≤ capacity → price (lookup es) f ≤ budget
+      → (inferOf formula environment names capacity budget room work .number < 2) ⊎ (inferOf formula environment names capacity budget room work .number ≡ 8)
+  answered-fitting l b = fits-answered formula environment names capacity budget room work es f reads sizes l b
 
-    pub six-full : (l : capacity < size (lookup es) f) → (inferOf formula environment names capacity budget room work .number ≡ 6) ↔ (fill (lookup es) f capacity l ≤ budget)
-    six-full l = full-six formula environment names capacity budget room work es f reads sizes l
+  -- they do not fit: 7 exactly until the capacity is used up, 6 from then on
+  pub seven-full : (l : capacity < size (lookup es) f) → (inferOf formula environment names capacity budget room work .number ≡ 7) ↔ (budget < fill (lookup es) f capacity l)
+  seven-full l = full-seven formula environment names capacity budget room work es f reads sizes l
+
+  pub six-full : (l : capacity < size (lookup es) f) → (inferOf formula environment names capacity budget room work .number ≡ 6) ↔ (fill (lookup es) f capacity l ≤ budget)
+  six-full l = full-six formula environment names capacity budget room work es f reads sizes l

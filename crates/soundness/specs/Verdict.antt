@@ -97,28 +97,26 @@ module _ (Γ : Env) (f : Formula) (s : Bench) (ran : Ran (size Γ f) (start (zer
   names-fixed : Every (λ q. (t : Ty) × Judged s (q .ref) (found t)) (names Γ (walked Γ f .row)) → NamesFixed Γ f (size Γ f) (zeros (3 * size Γ f)) s ran
   names-fixed h x r e l = let j = asked-found Γ (λ x r. (t : Ty) × Judged s r (found t)) (walked Γ f .row) h x r l e in agreed r (j .0) (j .1)
 
-  module _ (e : s .problems ≡ []) (n : Findings) (tn : Told (Judged s) (names Γ (walked Γ f .row)) n) (en : n .problems ≡ [])
-      (g : Findings) (tg : Told (Judged s) (slots (walked Γ f .slots)) g) (eg : g .problems ≡ [])
-    where
-      all-fixed : AllFixed Γ f (size Γ f) (zeros (3 * size Γ f)) s ran
-      all-fixed = (slots-fixed (walked Γ f .slots) (all-found (slots (walked Γ f .slots)) g tg eg), names-fixed (all-found (names Γ (walked Γ f .row)) n tn en))
+  module _ (e : s .problems ≡ []) (n : Findings) (tn : Told (Judged s) (names Γ (walked Γ f .row)) n) (en : n .problems ≡ []) (g : Findings) (tg : Told (Judged s) (slots (walked Γ f .slots)) g) (eg : g .problems ≡ []) where
+    all-fixed : AllFixed Γ f (size Γ f) (zeros (3 * size Γ f)) s ran
+    all-fixed = (slots-fixed (walked Γ f .slots) (all-found (slots (walked Γ f .slots)) g tg eg), names-fixed (all-found (names Γ (walked Γ f .row)) n tn en))
 
-      some-reading : Assignment
-      some-reading = reading Γ f (size Γ f) (zeros (3 * size Γ f)) s ran (base bool)
+    some-reading : Assignment
+    some-reading = reading Γ f (size Γ f) (zeros (3 * size Γ f)) s ran (base bool)
 
-      some-admitted : Admitted s some-reading
-      unfolding some-reading
-      some-admitted = reading-admitted Γ f (size Γ f) (zeros (3 * size Γ f)) s ran (base bool)
+    some-admitted : Admitted s some-reading
+    unfolding some-reading
+    some-admitted = reading-admitted Γ f (size Γ f) (zeros (3 * size Γ f)) s ran (base bool)
 
-      told-typing : (τ ρ : ℕ → Ty) → Typing Γ f τ ρ → (n .types ≡ name-entries Γ f ρ) × (g .types ≡ slot-entries f τ)
-      told-typing τ ρ t =
-          let w = typing-spelt Γ f (size Γ f) (zeros (3 * size Γ f)) s ran all-fixed τ ρ t some-reading some-admitted in (
-            types-found some-reading some-admitted (names Γ (walked Γ f .row)) n tn en ∙ names-types Γ ρ some-reading f (λ x r l h. sym (w .1 x r h l)),
-            types-found some-reading some-admitted (slots (walked Γ f .slots)) g tg eg ∙ slots-types some-reading (walked Γ f .slots) ∙ sym (slots-told Γ f some-reading τ (w .0)),
-          )
+    told-typing : (τ ρ : ℕ → Ty) → Typing Γ f τ ρ → (n .types ≡ name-entries Γ f ρ) × (g .types ≡ slot-entries f τ)
+    told-typing τ ρ t =
+        let w = typing-spelt Γ f (size Γ f) (zeros (3 * size Γ f)) s ran all-fixed τ ρ t some-reading some-admitted in (
+          types-found some-reading some-admitted (names Γ (walked Γ f .row)) n tn en ∙ names-types Γ ρ some-reading f (λ x r l h. sym (w .1 x r h l)),
+          types-found some-reading some-admitted (slots (walked Γ f .slots)) g tg eg ∙ slots-types some-reading (walked Γ f .slots) ∙ sym (slots-told Γ f some-reading τ (w .0)),
+        )
 
-      all-typed : Verdict Γ f (typed (n .types) (g .types))
-      all-typed = one (n .types) (g .types) (typings-exist Γ f (size Γ f) (zeros (3 * size Γ f)) s ran .0 e, one-typing Γ f (size Γ f) (zeros (3 * size Γ f)) s ran e .0 all-fixed) told-typing
+    all-typed : Verdict Γ f (typed (n .types) (g .types))
+    all-typed = one (n .types) (g .types) (typings-exist Γ f (size Γ f) (zeros (3 * size Γ f)) s ran .0 e, one-typing Γ f (size Γ f) (zeros (3 * size Γ f)) s ran e .0 all-fixed) told-typing
 
   -- ---- the walk listed something: no typing
   kind-of : (z : ℕ × ℕ) → In z (s .problems) → (z .0 < 2) ⊎ ((z .0 ≡ 4) ⊎ (z .0 ≡ 5))
