@@ -14,3 +14,4 @@ pub mod Tasks
 pub mod Make
 pub mod Frame
 pub mod Put
+mod Cases
