@@ -1,4 +1,7 @@
--- Arenas in solved form: each node stands for a finite tree over the unbound unknowns.
+-- Arenas in solved form: each node stands for a finite tree over the unbound unknowns, the same along bindings, with a rank that falls along them.
+-- `Admits`: an assignment of types to nodes obeys every node's equation. In solved form the admitted assignments are the evaluations of the trees (`spelt`,
+-- `extend-admits`), binding an absent unknown keeps the form (`good-bind`) and asks just its equation (`bind-keeps`, `bind-makes`, `bind-takes`), and so does
+-- a new node whose parts lie below (`good-push`). The last part says what binding and making do to the words.
 use Prim.Native.Nat.{ℕ, zero, suc, _+_, _*_, _≤_, _<_}
 use mathlib.Core.Path.{_≡_, refl, sym, _∙_, ap, ap₂, subst}
 use mathlib.Core.Logic.{_≢_}
@@ -100,7 +103,7 @@ module _ (n : ℕ) (at : Nodes) (G : Good n at) (σ : Assignment) (A : Admits n 
   pub spelt : (x : ℕ) → x < n → σ x ≡ eval σ (G .tree x)
   spelt x l = good-ind n at G (λ y. σ y ≡ eval σ (G .tree y)) (λ y q. spell y (at y) (G .fits y q) (A y q)) x l
 
--- LAW 3 (ii): every valuation of the unknowns extends
+-- every valuation of the unknowns extends
 module _ (n : ℕ) (at : Nodes) (G : Good n at) (ν : Assignment) where
   abbrev pub extend : Assignment
   extend x = eval ν (G .tree x)
@@ -184,11 +187,11 @@ module _ (n : ℕ) (at at′ : Nodes) (v t : ℕ) (here : at′ v ≡ link t) (t
       subst (λ (y : ℕ). Fits n tree′ rank′ y (at′ y)) (sym e) (subst (λ (k : Node). Fits n tree′ rank′ v k) (sym here) w)
   bound-fits x l (no h) = subst (λ (k : Node). Fits n tree′ rank′ x k) (sym (there x h)) (refit x h (at x) refl (G .fits x l))
 
-  -- LAW 3: the invariant stands after a binding
+  -- the invariant stands after a binding
   pub good-bind : Good n at′
   good-bind = record { tree = tree′; rank = rank′; fits = λ x l. bound-fits x l (ℕ-discrete x v) }
 
--- LAW 2 at a binding
+-- what a binding asks of an assignment
 module _ (n : ℕ) (at at′ : Nodes) (v t : ℕ) (here : at′ v ≡ link t) (there : (x : ℕ) → x ≢ v → at′ x ≡ at x) (vl : v < n) (fr : at v ≡ free) (σ : Assignment) where
   bind-keeps-at : Admits n at′ σ → (x : ℕ) → x < n → Dec (x ≡ v) → Says σ x (at x)
   bind-keeps-at A x l (yes e) = subst (λ (k : Node). Says σ x k) (sym (ap at e ∙ fr)) tt

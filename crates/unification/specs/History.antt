@@ -1,4 +1,6 @@
--- What a whole history of calls asks of an assignment.
+-- A whole history of calls, failed, spent and refused ones included: what it asks of an assignment (`Asks`), and what the arena admits after it.
+-- Whatever happened, what was asked is admitted (`asked-admitted`); if every comparison succeeded, nothing else is (`admitted-asked`); if one failed, nothing
+-- meets what was asked (`failed-none`).
 use Prim.Native.Nat.{ℕ, zero, suc, _+_, _*_, _≤_, _<_}
 use mathlib.Core.Path.{_≡_, refl, sym, _∙_, ap, ap₂, subst}
 use mathlib.Core.Logic.{_≢_, _↔_, _⊎_, inl, inr}
@@ -50,7 +52,7 @@ asked-admitted (made {n = n} {ws = ws} k a b i s r) σ q = push-takes n (nodeAt 
     (subst (λ (d : Node). Says σ n d) (sym (node-push-new ws n k a b s)) (q .1))
 asked-admitted (called {n = n} {ws = ws} a b β r) σ q = called-takes n ws a b β (reached-whole r) (decLt a n) (decLt b n) σ (asked-admitted r σ (q .0)) (q .1)
 
-after-done : (o : Answer) (r : ℕ) → after (done o r) ≡ o .1
+pub after-done : (o : Answer) (r : ℕ) → after (done o r) ≡ o .1
 unfolding after
 after-done o r = refl
 

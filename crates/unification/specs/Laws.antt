@@ -1,4 +1,8 @@
 -- The laws of unification, as the layer above sees them.
+--
+-- Of any words: `*-steps` and `*-refused`, least budgets of answers and of refusals. Of every arena reached from the empty one by making nodes and
+-- comparing references, whatever the outcomes (`Reached`): `unify-success` and `unify-exactly`, what a comparison means for the assignments that the arena
+-- admits; `unknowns-free`, every valuation of the unknowns extends; `solved-law` and `read-law`, solved references are those on which all assignments agree.
 use Prim.Native.Nat.{ℕ, zero, suc, _+_, _*_, _≤_, _<_}
 use mathlib.Core.Path.{_≡_, refl, sym, _∙_, ap, ap₂, subst}
 use mathlib.Core.Logic.{_≢_, _↔_, _⊎_, inl, inr}
@@ -8,7 +12,7 @@ use native.Mathlib.Omega.{arith}
 use native.Mathlib.Decide.{decLt}
 use lib.ListN.{length}
 use borrow.Author.Tests.{le-ltb}
-use Rattle.meter.specs.Meter.{Out, spent, halt, done, Why, broken, full, M, ret, fail, tick, on, _>>=_, atE, reading, Exact, Ends, exact-ends, exact-done, Costs, done-costs}
+use Rattle.meter.specs.Meter.{Out, spent, halt, done, Why, broken, full, M, ret, fail, tick, on, _>>=_, atE, reading, Exact, Ends, exact-ends, exact-done, Costs, done-costs, Halts, halt-costs}
 use Rattle.types.specs.Ty.{Atom, bool, int, given, Ty, base, pow, prod}
 use Rattle.unification.specs.Arena.{Node, free, link, leaf, power, pair, bad, decode, Words, U, nodeAt, bindAt, follow, resolve, occurs, solved, read, Verdict, unified, mismatch, circular, Pair, Answer, unifyF, unify}
 use Rattle.unification.specs.Trees.{Tm, var, eval, has, ground, ground-same, ground-differs}
@@ -24,7 +28,7 @@ after (spent e) = e
 after (halt c e) = e
 after (done o r) = o .1
 
--- LAW 1, of any words at all: the steps of an answer are the least budget for it, and a larger one changes nothing
+-- of any words at all: the steps of an answer are the least budget for it, and a larger one changes nothing
 pub resolve-steps : (ws : Words) (n t β r a : ℕ) → resolve ws n t β ≡ done a r → (c : ℕ) × (c + r ≡ β) × Costs (resolve ws n t) a c
 resolve-steps ws n t β r a e = done-costs (resolve-metered ws n t) β a r e
 
@@ -36,6 +40,19 @@ solved-steps ws n t β r a e = done-costs (solved-metered ws n t) β a r e
 
 pub unify-steps : (n : ℕ) (i : Pair) (β r : ℕ) (o : Answer) → unify n i β ≡ done o r → (c : ℕ) × (c + r ≡ β) × Costs (unify n i) o c
 unify-steps n i β r o e = done-costs (unify-metered n i) β o r e
+
+-- and so is a refusal's: from a least budget on it is given, and below it the budget is spent
+pub resolve-refused : (ws : Words) (n t β : ℕ) (w : Why) (e : U) → resolve ws n t β ≡ halt w e → (c : ℕ) × (c ≤ β) × Halts (resolve ws n t) w e c
+resolve-refused ws n t β w e q = halt-costs (resolve-metered ws n t) w e β q
+
+pub occurs-refused : (ws : Words) (n v t β : ℕ) (w : Why) (e : U) → occurs ws n v t β ≡ halt w e → (c : ℕ) × (c ≤ β) × Halts (occurs ws n v t) w e c
+occurs-refused ws n v t β w e q = halt-costs (occurs-metered ws n v t) w e β q
+
+pub solved-refused : (ws : Words) (n t β : ℕ) (w : Why) (e : U) → solved ws n t β ≡ halt w e → (c : ℕ) × (c ≤ β) × Halts (solved ws n t) w e c
+solved-refused ws n t β w e q = halt-costs (solved-metered ws n t) w e β q
+
+pub unify-refused : (n : ℕ) (i : Pair) (β : ℕ) (w : Why) (ws : Words) → unify n i β ≡ halt w ws → (c : ℕ) × (c ≤ β) × Halts (unify n i) w ws c
+unify-refused n i β w ws q = halt-costs (unify-metered n i) w ws β q
 
 -- the arenas reached from the empty one by public calls; every node made is fresh, BOOL, ℤ, given, power or product
 pub data Reached : ℕ → Words → Type 0 where
@@ -93,13 +110,13 @@ made-whole n ws k a b i s w = (
       (subst (λ (d : Node). Inside n d) (sym (node-push-new ws n k a b s)) i),
 )
 
--- LAW 3: every arena reached is whole
+-- every arena reached is whole
 pub reached-whole : {n : ℕ} {ws : Words} → Reached n ws → (3 * n ≤ length ws) × Good n (nodeAt ws n)
 reached-whole (empty ws) = (omega arith, record { tree = λ x. var x; rank = λ x. 0; fits = λ x l. absurd (omega arith) })
 reached-whole (made {n = n} {ws = ws} k a b i s r) = made-whole n ws k a b i s (reached-whole r)
 reached-whole (called {n = n} {ws = ws} a b β r) = called-whole n ws a b β (reached-whole r) (decLt a n) (decLt b n)
 
--- LAW 3 (i): a budget that suffices, and from it on the same answer
+-- a budget that suffices, and from it on the same answer
 module _ {n : ℕ} {ws : Words} (R : Reached n ws) where
   G : Good n (nodeAt ws n)
   G = reached-whole R .1
@@ -116,21 +133,21 @@ module _ {n : ℕ} {ws : Words} (R : Reached n ws) where
   pub unify-ends : (a b : ℕ) → a < n → b < n → (r : Answer) × (c : ℕ) × Costs (unify n (ws, a, b)) r c
   unify-ends a b al bl = let x = unify-exact n ws (reached-whole R .0) G a b al bl in (x .answer, x .cost, record { enough = x .enough; short = λ e q. (let y = x .short e q in (y .0, y .1)) })
 
-  -- LAW 2: what a success admits
+  -- what a success admits
   pub unify-success : (a b : ℕ) → a < n → b < n → (β r : ℕ) (ws′ : Words) → unify n (ws, a, b) β ≡ done (unified, ws′) r
       → (σ : Assignment) → Admits n (nodeAt ws′ n) σ ↔ (Admits n (nodeAt ws n) σ × (σ a ≡ σ b))
   unify-success a b al bl β r ws′ e σ =
       let o : Outcome n ws (λ σ. σ a ≡ σ b) (unified, ws′) = exact-done (unify-exact n ws (reached-whole R .0) G a b al bl) β (unified, ws′) r e in
       (λ A. (o .kept .keeps σ A, o .judged σ A), λ A. o .kept .takes σ (A .0) (A .1))
 
-  -- LAW 2: a mismatch or a circularity is given only where no assignment equates the two
+  -- a mismatch or a circularity is given only where no assignment equates the two
   pub unify-failure : (a b : ℕ) → a < n → b < n → (β r : ℕ) (o : Verdict) (ws′ : Words) → o ≢ unified → unify n (ws, a, b) β ≡ done (o, ws′) r
       → (σ : Assignment) → Admits n (nodeAt ws n) σ → σ a ≢ σ b
   unify-failure a b al bl β r unified ws′ d e = absurd (d refl)
   unify-failure a b al bl β r mismatch ws′ d e = exact-done (unify-exact n ws (reached-whole R .0) G a b al bl) β (mismatch, ws′) r e .judged
   unify-failure a b al bl β r circular ws′ d e = exact-done (unify-exact n ws (reached-whole R .0) G a b al bl) β (circular, ws′) r e .judged
 
-  -- LAW 2, exactly: where the budget suffices, a failure is given just where no assignment equates the two
+  -- exactly: where the budget suffices, a failure is given just where no assignment equates the two
   pub unify-exactly : (a b : ℕ) → a < n → b < n → (β r : ℕ) (o : Verdict) (ws′ : Words) → unify n (ws, a, b) β ≡ done (o, ws′) r
       → (o ≢ unified) ↔ ((σ : Assignment) → Admits n (nodeAt ws n) σ → σ a ≢ σ b)
   unify-exactly a b al bl β r o ws′ e = (
@@ -141,11 +158,11 @@ module _ {n : ℕ} {ws : Words} (R : Reached n ws) where
         h (extend n (nodeAt ws′ n) (u .kept .good) (λ x. base bool)) (f .0) (f .1)),
   )
 
-  -- LAW 3 (ii)
+  -- every valuation of the unbound unknowns extends to an admitted assignment
   pub unknowns-free : (ν : Assignment) → (σ : Assignment) × Admits n (nodeAt ws n) σ × ((x : ℕ) → x < n → nodeAt ws n x ≡ free → σ x ≡ ν x)
   unknowns-free ν = (extend n (nodeAt ws n) G ν, extend-admits n (nodeAt ws n) G ν, extend-free n (nodeAt ws n) G ν)
 
-  -- LAW 3 (iii)
+  -- all admitted assignments agree on t
   abbrev pub Determined : ℕ → Type 0
   Determined t = (σ σ′ : Assignment) → Admits n (nodeAt ws n) σ → Admits n (nodeAt ws n) σ′ → σ t ≡ σ′ t
 

@@ -14,4 +14,5 @@ pub mod Tasks
 pub mod Make
 pub mod Frame
 pub mod Put
+pub mod Histories
 mod Cases

@@ -1,4 +1,6 @@
--- The seam to the walk: what a walk makes and compares is a list, whatever unification answers; here the list is run.
+-- Lists of operations, run over an arena: the seam to a walk, which makes and compares the same things whatever unification answers.
+-- `exec-exact`: a list whose nodes fit ends, at a price, and then either nothing is listed and the arena admits just what meets the list, or something is
+-- listed and nothing meets it. `exec-full`: where the capacity ends inside the list, it halts full. `exec-metered`, `exec-append`: least budgets, and parts.
 use Prim.Native.Nat.{ℕ, zero, suc, _+_, _*_, _≤_, _<_}
 use mathlib.Core.Path.{_≡_, refl, sym, _∙_, ap, ap₂, subst, fun-ext}
 use mathlib.Core.Logic.{_≢_, _↔_, _⊎_, inl, inr}
@@ -49,7 +51,7 @@ exec cap (make k a b ∷ os) s = choose (ltb (s .count) cap) (exec cap os (grow 
 exec cap (compare a b p ∷ os) s = forget (unify (s .count) (s .words, a, b)) >>= λ o. exec cap os (learn s p o)
 exec cap (list q p ∷ os) s = exec cap os (complain s q p)
 
--- LAW 1 for every walk
+-- metered
 pub exec-metered : (cap : ℕ) (os : List Op) (s : Bench) → Metered (exec cap os s)
 unfolding exec
 exec-metered cap [] s = metered-ret s
@@ -268,7 +270,7 @@ module _ (cap : ℕ) where
   pay-judged s os s′ (clean e f) = clean e f
   pay-judged s os s′ (hopeless e f) = hopeless e f
 
-  -- LAWS 2 and 3 for every walk whose nodes fit
+  -- a list whose nodes fit: what it costs, and what stands after it (`Ran`)
   pub exec-exact : (os : List Op) (s : Bench) → Ready cap s → Sound (s .count) os → s .count + nodes os ≤ cap → Exact (λ _. U) (Ran cap s os) (exec cap os s)
   unfolding exec choose grow learn complain
   exec-exact [] s r w l = exact-ret _ s (ran-nil s r)

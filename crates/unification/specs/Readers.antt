@@ -1,4 +1,5 @@
--- Over a good arena: resolve, occurs and solved end, and what they answer.
+-- Over an arena in solved form `resolve`, `occurs`, `solved` and `read` end, each at a price of its own, and what they answer: the root of the same tree; whether
+-- the unknown stands in the tree; whether the tree is ground; the type that every valuation gives it.
 use Prim.Native.Nat.{ℕ, zero, suc, _+_, _*_, _≤_, _<_}
 use mathlib.Core.Path.{_≡_, refl, sym, _∙_, ap, ap₂, subst}
 use mathlib.Core.Logic.{_≢_}

@@ -1,4 +1,4 @@
--- Law 1 for the four functions, and small examples by computation.
+-- Each function of `Arena` is metered, and each has its recursion's equation, with no fuel in it (`*-metered`, `*-eq`).
 use Prim.Native.Nat.{ℕ, zero, suc, _+_, _*_, _≤_, _<_}
 use mathlib.Core.Path.{_≡_, refl}
 use mathlib.Core.Bool.{Bool, true, false}

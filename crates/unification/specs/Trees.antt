@@ -1,4 +1,6 @@
 -- Finite trees over unknowns: what a node of an acyclic arena stands for.
+-- Evaluation under a valuation, substitution, occurrence, groundness, and how they meet: substituting what is absent changes nothing; a ground tree has one
+-- value, any other has two; an unknown inside a tree that is not itself weighs less than the tree, so no finite type equates the two.
 use Prim.Native.Nat.{ℕ, zero, suc, _+_, _*_, _≤_, _<_}
 use mathlib.Core.Path.{_≡_, refl, sym, _∙_, ap, ap₂}
 use mathlib.Core.Logic.{_≢_}

@@ -1,4 +1,4 @@
--- Of any words: where solved answers true, read answers a type, at the same cost.
+-- Of any words: where `solved` says yes, `read` answers a type with as much left of the budget (`read-as-solved`).
 use Prim.Native.Nat.{ℕ, zero, suc, _+_, _*_, _≤_, _<_}
 use mathlib.Core.Path.{_≡_, refl, sym, _∙_, ap, ap₂, subst}
 use mathlib.Core.Bool.{Bool, true, false}

@@ -1,4 +1,6 @@
--- Over a good arena unify ends; what it answers, and what stands after it, at every budget.
+-- Over an arena in solved form `unify` ends, and at every budget what stands is in solved form again: `unify-exact`.
+-- `Kept` says what stands in any outcome (no assignment is gained; none that obeys the equation is lost); `Judges` what each verdict means: a success admits only
+-- assignments that obey the equation, a failure is given only where none does.
 use Prim.Native.Nat.{ℕ, zero, suc, _+_, _*_, _≤_, _<_}
 use mathlib.Core.Path.{_≡_, refl, sym, _∙_, ap, ap₂, subst}
 use mathlib.Core.Logic.{_≢_}
@@ -232,7 +234,7 @@ module _ (n : ℕ) where
     meeting-does ra rb (pair x y) bad ea eb fa fb = absurd fb
     meeting-does ra rb bad nb ea eb fa fb = absurd fa
 
-  -- LAWS 2 and 3 for unify, at one level of the induction
+  -- unify at one level of the induction
   module _ (ws : Words) (s : 3 * n ≤ length ws) (G : Good n (nodeAt ws n)) (a b : ℕ) (al : a < n) (bl : b < n)
       (rec : (x y : ℕ) → x < n → y < n → size (G .tree x) < size (G .tree a) → Does ws (λ σ. σ x ≡ σ y) (unify n (ws, x, y)))
       (less : (ws′ : Words) → 3 * n ≤ length ws′ → Good n (nodeAt ws′ n) → frees (nodeAt ws′ n) n < frees (nodeAt ws n) n → (x y : ℕ) → x < n → y < n → Does ws′ (λ σ. σ x ≡ σ y) (unify n (ws′, x, y))) where
@@ -266,6 +268,6 @@ module _ (n : ℕ) where
   by-frees zero ws s G f a b al bl = absurd (omega arith)
   by-frees (suc k) ws s G f a b al bl = by-size k (by-frees k) (suc (size (G .tree a))) ws s G (omega arith) a b al bl (omega arith)
 
-  -- LAWS 2 and 3 for unify
+  -- the whole for unify
   pub unify-exact : (ws : Words) → 3 * n ≤ length ws → Good n (nodeAt ws n) → (a b : ℕ) → a < n → b < n → Exact (Kept ws (λ σ. σ a ≡ σ b)) (Outcome ws (λ σ. σ a ≡ σ b)) (unify n (ws, a, b))
   unify-exact ws s G a b al bl = by-frees (suc (frees (nodeAt ws n) n)) ws s G (omega arith) a b al bl
