@@ -1,3 +1,4 @@
 pub mod Fits
 pub mod Sizes
 pub mod Says
+pub mod Sound

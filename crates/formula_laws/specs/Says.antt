@@ -35,9 +35,10 @@ pub record Stand (s : List ℕ) (p : ℕ) (x : List ℕ) (e : ℕ) : Type 0 wher
 
 pub stand-join : (s : List ℕ) (p q e : ℕ) (x y : List ℕ) → Stand s p x q → Stand s q y e → Stand s p (x ++ y) e
 stand-join s p q e x y a b =
-    record
-      { ends = let h = a .ends in let k = b .ends in let l = lib.ListN.length-append x y in omega arith
-      ; bytes = a .bytes ∙ ap (λ (l : List ℕ). x ++ l) (b .bytes) ∙ sym (mathlib.Core.List.append-assoc x y (drop e s)) }
+    record {
+      ends = let h = a .ends in let k = b .ends in let l = lib.ListN.length-append x y in omega arith;
+      bytes = a .bytes ∙ ap (λ (l : List ℕ). x ++ l) (b .bytes) ∙ sym (mathlib.Core.List.append-assoc x y (drop e s));
+    }
 
 -- what a part of a body says
 unfoldable pub ByteSays : List ℕ → Place → Byte → Type 0
@@ -77,9 +78,9 @@ module _ (s : List ℕ) (bytes : (i : ℕ) → getD s i 0 < 256) where
       on-byte (WordSays s p) W.Missing p (λ lo q. onByte W.Missing (byteAt s q) λ hi r. W.Of (lo + hi * 256) r) tt
       (λ lo q a x. on-byte (WordSays s p) W.Missing q (λ hi r. W.Of (lo + hi * 256) r) tt
       (λ hi r b y.
-          let u : (lo + hi * 256) % 256 ≡ lo = omega arith in
-          let v : (lo + hi * 256) / 256 ≡ hi = omega arith in
-          rw (u, v) (stand-join s (p .0) (q .0) (r .0) (lo ∷ []) (hi ∷ []) x y)))
+      let u : (lo + hi * 256) % 256 ≡ lo = omega arith in
+      let v : (lo + hi * 256) / 256 ≡ hi = omega arith in
+      rw (u, v) (stand-join s (p .0) (q .0) (r .0) (lo ∷ []) (hi ∷ []) x y)))
 
   pub on-word : {A : Type 0} (Q : A → Type 0) (z : A) (p : Place) (f : ℕ → Place → A) → Q z → ((w : ℕ) (e : Place) → Stand s (p .0) (w % 256 ∷ w / 256 ∷ []) (e .0) → Q (f w e)) → Q (onWord z (wordAt s p) f)
   unfolding WordSays onWord
@@ -202,6 +203,7 @@ module _ (names : ℕ) (s : List ℕ) (bytes : (i : ℕ) → getD s i 0 < 256) w
     where
       Q : ExprAt → Type 0
       Q = ExprSays names s bare p
+
       on-bare : k ≡ 0x0C → (c : Bool) → bare ≡ c → ExprSays names s bare p (pick c E.Wrong (E.Is (Explicit q)))
       on-bare h true e = tt
       on-bare h false e = (e, lead p k (q .0) x 0x0C h)
