@@ -2,3 +2,4 @@ pub mod Fits
 pub mod Sizes
 pub mod Says
 pub mod Sound
+pub mod Complete

@@ -506,3 +506,173 @@ module _ (names : ℕ) (s : List ℕ) (bytes : (i : ℕ) → getD s i 0 < 256) w
         pred-if d left (let i : suc d + left ≡ levels = omega arith in i) (λ b t. exprAt left names s b t) (λ t. predAt left names s t)
         (λ b t. sound-expr left (suc d) (let i : suc d + left ≡ levels = omega arith in i) b t) (λ t. sound-pred left (suc d) (let i : suc d + left ≡ levels = omega arith in i) t)
         st (predHead s (st .at)) (pred-says names s bytes (st .at))
+
+  -- ---- formulas
+
+  pub record TargetRead (st : St) (a : Target) (t : St) : Type 0 where
+    pub step : Step s st (spell-target a) 1 0 t
+    pub placed : a .place ≡ st .at .0
+    pub fits : a .name < names
+
+  target-by : (st : St) (w : Word) → TargetSays names s (st .at .0) w → Holds (λ t a. TargetRead st a t) (targetBy st w)
+  unfolding targetBy TargetSays Holds spell-target
+  target-by st W.Missing x = tt
+  target-by st (W.Of n e) x = holds-next (λ t a. TargetRead st a t) (ownOf e st) _ (λ t o. record { step = step-own s e st t _ o (x .1); placed = refl; fits = x .0 })
+
+  pub sound-target : (st : St) → Holds (λ t a. TargetRead st a t) (targetIn names s st)
+  unfolding targetIn
+  sound-target st = target-by st (targetAt names s (st .at)) (target-says names s bytes (st .at))
+
+  pub record TargetsRead (n : ℕ) (st : St) (a : List Target) (t : St) : Type 0 where
+    pub step : Step s st (spell-targets a) (targets a) 0 t
+    pub count : targets a ≡ n
+    pub placed : Placed-targets (st .at .0) a
+    pub fits : Fits-targets names a
+
+  targets-none : (st : St) → TargetsRead 0 st [] st
+  unfolding spell-targets targets Placed-targets Fits-targets
+  targets-none st = record { step = step-none s st; count = refl; placed = tt; fits = tt }
+
+  targets-more : (n : ℕ) (st t u : St) (a : Target) (b : List Target) → TargetRead st a t → TargetsRead n t b u → TargetsRead (suc n) st (a ∷ b) u
+  unfolding spell-targets spell-target targets Placed-targets Fits-targets
+  targets-more n st t u a b r q =
+      let i : t .at .0 ≡ st .at .0 + 3 = r .step .stand .ends in
+      record { step = step-as s (step-join s (r .step) (q .step)) (omega arith) refl; count = ap suc (q .count); placed = (r .placed, rw i at (q .placed)); fits = (r .fits, q .fits) }
+
+  sound-targets : (n : ℕ) (st : St) → Holds (λ t a. TargetsRead n st a t) (targetsAt names s n st)
+  unfolding targetsAt
+  sound-targets n st = holds-many [] _∷_ (targetIn names s) TargetRead TargetsRead targets-none targets-more sound-target n st
+
+  pub record PairRead (st : St) (a : Target × Expr) (t : St) : Type 0 where
+    pub step : Step s st (spell-target (a .0) ++ spell (a .1)) (1 + slots (a .1)) 0 t
+    pub target-placed : a .0 .place ≡ st .at .0
+    pub target-fits : a .0 .name < names
+    pub placed : Placed (st .at .0 + 3) (a .1)
+    pub fits : Fits names 1 (st .opened) (a .1)
+
+  sound-pair : (st : St) → Holds (λ t a. PairRead st a t) (pairIn max-depth names s st)
+  unfolding pairIn Holds spell-target
+  sound-pair st =
+      holds-then (λ t a. TargetRead st a t) (λ t a. PairRead st a t) (targetIn names s st) _ (sound-target st)
+      (λ a t r. holds-then (λ u b. ExprRead 1 false t b u) (λ t a. PairRead st a t) (exprAt max-depth names s false t) _ (sound-expr max-depth 1 refl false t)
+      (λ b u q.
+      let ro = r .step .opens in
+      let y = expr-at q (st .at .0 + 3) (st .opened) (r .step .stand .ends) (let j : t .opened ≡ st .opened = omega arith in j) in
+      record { step = step-join s (r .step) (q .step); target-placed = r .placed; target-fits = r .fits; placed = y .0; fits = y .1 }))
+
+  pub record PairsRead (n : ℕ) (st : St) (a : List (Target × Expr)) (t : St) : Type 0 where
+    pub step : Step s st (spell-pairs a) (slots-pairs a) 0 t
+    pub count : pairs a ≡ n
+    pub placed : Placed-pairs (st .at .0) a
+    pub fits : st .opened ≡ 0 → Fits-pairs names a
+
+  pairs-none : (st : St) → PairsRead 0 st [] st
+  unfolding spell-pairs slots-pairs pairs Placed-pairs Fits-pairs
+  pairs-none st = record { step = step-none s st; count = refl; placed = tt; fits = λ z. tt }
+
+  pairs-more : (n : ℕ) (st t u : St) (a : Target × Expr) (b : List (Target × Expr)) → PairRead st a t → PairsRead n t b u → PairsRead (suc n) st (a ∷ b) u
+  unfolding spell-pairs spell-target slots-pairs pairs Placed-pairs Fits-pairs
+  pairs-more n st t u a b r q =
+      let e = r .step .stand .ends in let l = length-expr (a .1) in let o = r .step .opens in
+      let i : t .at .0 ≡ st .at .0 + 3 + size (a .1) = omega arith in
+      record {
+        step = step-as s (step-join s (r .step) (q .step)) (omega arith) refl;
+        count = ap suc (q .count);
+        placed = (r .target-placed, r .placed, rw i at (q .placed));
+        fits = λ z. (r .target-fits, rw z at (r .fits), q .fits (omega arith));
+      }
+
+  sound-pairs : (n : ℕ) (st : St) → Holds (λ t a. PairsRead n st a t) (pairsAt max-depth names s n st)
+  unfolding pairsAt
+  sound-pairs n st = holds-many [] _∷_ (pairIn max-depth names s) PairRead PairsRead pairs-none pairs-more sound-pair n st
+
+  -- a formula at the start of a stream
+  pub record FormulaRead (st : St) (a : Formula) (t : St) : Type 0 where
+    pub stand : Stand s (st .at .0) (spell-formula a) (t .at .0)
+    pub owns : t .slots ≡ st .slots + slots-of a
+    pub limit : st .slots ≤ max-slots → t .slots ≤ max-slots
+    pub placed : Placed-formula (st .at .0) a
+    pub fits : Fits-root names a
+
+  module _ (st : St) (none-open : st .opened ≡ 0) where
+    becomes-by : (n : ℕ) (e : Place) (k : ℕ) → Stand s (st .at .0) (k ∷ n ∷ []) (e .0) → Holds (λ t a. FormulaRead st a t) (becomesBy max-depth names s n e st k)
+    unfolding becomesBy Holds spell-formula slots-of Placed-formula Fits-root spell-targets Placed-targets spell-target
+    becomes-by zero e k x = tt
+    becomes-by (suc n) e k x =
+        choose S k 0x30 _ _
+        (λ h. holds-then (λ u a. PairsRead (suc n) (moved e st) a u) (λ t a. FormulaRead st a t) (pairsAt max-depth names s (suc n) (moved e st)) _ (sound-pairs (suc n) (moved e st))
+        (λ a u r.
+        let w = step-moved s st (0x30 ∷ suc n ∷ []) e (rw h at x) in
+        let y = step-join s w (r .step) in
+        let i : moved e st .at .0 ≡ st .at .0 + 2 = w .stand .ends in
+        let c = r .count in let o = w .opens in
+        record { stand = rw c (y .stand); owns = let j = y .owns in omega arith; limit = y .limit; placed = (refl, rw i at (r .placed)); fits = ((let j : 1 ≤ pairs a = omega arith in j), r .fits (omega arith)) }))
+        (choose S k 0x31 _ _
+        (λ h. holds-then (λ u a. TargetRead (moved e st) a u) (λ t a. FormulaRead st a t) (targetIn names s (moved e st)) _ (sound-target (moved e st))
+        (λ a u r. holds-then (λ v b. TargetsRead n u b v) (λ t a. FormulaRead st a t) (targetsAt names s n u) _ (sound-targets n u)
+        (λ b v q. holds-then (λ z f. ExprRead 1 false v f z) (λ t a. FormulaRead st a t) (exprAt max-depth names s false v) _ (sound-expr max-depth 1 refl false v)
+        (λ f z g.
+        let w = step-moved s st (0x31 ∷ suc n ∷ []) e (rw h at x) in
+        let y = step-join s w (step-join s (r .step) (step-join s (q .step) (g .step))) in
+        let i : moved e st .at .0 ≡ st .at .0 + 2 = w .stand .ends in
+        let re = r .step .stand .ends in let qe = q .step .stand .ends in let ql = length-targets b in
+        let wo = w .opens in let ro = r .step .opens in let qo = q .step .opens in
+        let j : u .at .0 ≡ st .at .0 + 5 = three (u .at .0) (moved e st .at .0) (st .at .0) re i in
+        let c = q .count in
+        let p = expr-at g (st .at .0 + 5 + size-targets b) 0 (let m : v .at .0 ≡ st .at .0 + 5 + size-targets b = omega arith in m) (let m : v .opened ≡ 0 = omega arith in m) in
+        record { stand = rw c (y .stand); owns = let m = y .owns in omega arith; limit = y .limit; placed = (refl, r .placed ∙ i, rw j at (q .placed), p .0); fits = (r .fits, q .fits, p .1) }))))
+        (choose S k 0x32 _ _
+        (λ h. holds-then (λ u a. TargetsRead (suc n) (moved e st) a u) (λ t a. FormulaRead st a t) (targetsAt names s (suc n) (moved e st)) _ (sound-targets (suc n) (moved e st))
+        (λ a u r. holds-then (λ v b. DeclsRead 1 (suc n) u b v) (λ t a. FormulaRead st a t) (declsAt names s max-depth (suc n) u) _ (sound-decls 1 max-depth refl (suc n) u)
+        (λ b v q. holds-then (λ z f. PredRead 1 v f z) (λ t a. FormulaRead st a t) (predAt max-depth names s v) _ (sound-pred max-depth 1 refl v)
+        (λ f z g.
+        let w = step-moved s st (0x32 ∷ suc n ∷ []) e (rw h at x) in
+        let y = step-join s w (step-join s (r .step) (step-join s (q .step) (g .step))) in
+        let i : moved e st .at .0 ≡ st .at .0 + 2 = w .stand .ends in
+        let re = r .step .stand .ends in let qe = q .step .stand .ends in let rl = length-targets a in let ql = length-decls b in
+        let wo = w .opens in let ro = r .step .opens in let qo = q .step .opens in
+        let c = r .count in let m = q .count in
+        let j : u .at .0 ≡ st .at .0 + 2 + size-targets a = omega arith in
+        let p = pred-at g (st .at .0 + 2 + size-targets a + size-decls b) (decls b) (let m : v .at .0 ≡ st .at .0 + 2 + size-targets a + size-decls b = omega arith in m) (let m : v .opened ≡ decls b = omega arith in m) in
+        let most = q .most (omega arith) in
+        record {
+          stand = rw c (y .stand);
+          owns = let m = y .owns in omega arith;
+          limit = y .limit;
+          placed = (refl, rw i at (r .placed), rw j at (q .placed), p .0);
+          fits = ((let m : 1 ≤ targets a = omega arith in m), c ∙ sym m, (let m : decls b ≤ max-opened = omega arith in m), r .fits, q .fits, p .1);
+        })))) tt))
+      where
+        S : Got Formula → Type 0
+        S = Holds (λ t a. FormulaRead st a t)
+
+        three : (p q r : ℕ) → p ≡ q + 3 → q ≡ r + 2 → p ≡ r + 5
+        three p q r h k = omega arith
+
+    becomes-at : (k : ℕ) (q : Place) → Stand s (st .at .0) (k ∷ []) (q .0) → Holds (λ t a. FormulaRead st a t) (becomesAt names s st k q)
+    unfolding becomesAt Holds
+    becomes-at k q x = on-few s bytes (Holds (λ t a. FormulaRead st a t)) (bad (Malformed (st .at))) q _ tt (λ n e l y. becomes-by n e k (stand-join s (st .at .0) (q .0) (e .0) (k ∷ []) (n ∷ []) x y))
+
+    root-by : (k : ℕ) (q : Place) → Stand s (st .at .0) (k ∷ []) (q .0) → Holds (λ t a. FormulaRead st a t) (rootBy names s st k q)
+    unfolding rootBy Holds spell-formula slots-of Placed-formula Fits-root
+    root-by k q x = go (ltb k 0x20) (ltb k 0x30)
+      where
+        as-expr : Holds (λ t a. FormulaRead st a t) (andThen (exprAt levels names s false st) λ a st₁. ok st₁ (expression a))
+        as-expr =
+            holds-then (λ u a. ExprRead 0 false st a u) (λ t a. FormulaRead st a t) (exprAt levels names s false st) _ (sound-expr levels 0 refl false st)
+            (λ a u r. record { stand = r .step .stand; owns = r .step .owns; limit = r .step .limit; placed = r .placed; fits = rw none-open at (r .fits) })
+
+        as-pred : Holds (λ t a. FormulaRead st a t) (andThen (predAt levels names s st) λ q st₁. ok st₁ (predicate q))
+        as-pred =
+            holds-then (λ u a. PredRead 0 st a u) (λ t a. FormulaRead st a t) (predAt levels names s st) _ (sound-pred levels 0 refl st)
+            (λ a u r. record { stand = r .step .stand; owns = r .step .owns; limit = r .step .limit; placed = r .placed; fits = rw none-open at (r .fits) })
+
+        go : (b c : Bool) → Holds (λ t a. FormulaRead st a t) (pick b (andThen (exprAt levels names s false st) λ a st₁. ok st₁ (expression a)) (pick c (andThen (predAt levels names s st) λ q st₁. ok st₁ (predicate q)) (becomesAt names s st k q)))
+        go true true = as-expr
+        go true false = as-expr
+        go false true = as-pred
+        go false false = becomes-at k q x
+
+    pub sound-formula : Holds (λ t a. FormulaRead st a t) (formulaAt names s st)
+    unfolding formulaAt Holds
+    sound-formula = on-byte s bytes (Holds (λ t a. FormulaRead st a t)) (bad (Malformed (st .at))) (st .at) (rootBy names s st) tt (λ k q l x. root-by k q x)
