@@ -262,7 +262,7 @@ module _ (ns : List (List ℕ)) (s : List ℕ) where
 
 -- ---- a whole text
 
-ends-got : (n : ℕ) (u : Ty) (f : ℕ) (t : Ty) (e : ℕ) → endsAt n u f ≡ got t e → (f ≡ n) × (u ≡ t) × (f ≡ e)
+pub ends-got : (n : ℕ) (u : Ty) (f : ℕ) (t : Ty) (e : ℕ) → endsAt n u f ≡ got t e → (f ≡ n) × (u ≡ t) × (f ≡ e)
 unfolding endsAt
 ends-got n u f t e h = go (eqb f n) refl h
   where

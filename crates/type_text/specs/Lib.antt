@@ -6,3 +6,5 @@ pub mod Write
 pub mod Scan
 pub mod Lay
 pub mod Read
+pub mod Entries
+pub mod Examples

@@ -92,8 +92,8 @@ pub fn read(text: &[u8], table: &[u8], page: &mut [u8]) -> Answer
             match room {
                 Room::Over => Answer::NoRoom,
                 Room::Left(_) => {
-                    let w = reader::lay_product(text, table, c, page);
-                    Answer::Done(w.width)
+                    let laid = reader::lay_product(text, table, c, page);
+                    Answer::Done(laid.width)
                 }
             }
         }
