@@ -142,7 +142,7 @@ good-of-table all (n ∷ ns) (suc f) i h g s =
     )
     (good-of-table all ns f (i + 1) (omega arith) (λ k q. ap (λ (x : ℕ). goodName all x (getD ns k [])) (let y : i + 1 + k ≡ i + suc k = omega arith in y) ∙ g (suc k) (omega arith)) (λ k q. s (suc k) (omega arith)))
 
-word-some : (w : List ℕ) → isWord w ≡ true → 1 ≤ length w
+pub word-some : (w : List ℕ) → isWord w ≡ true → 1 ≤ length w
 unfolding isWord
 word-some [] e = absurd (true-false (sym e))
 word-some (c ∷ w) e = omega arith

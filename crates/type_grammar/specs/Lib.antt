@@ -5,4 +5,5 @@ pub mod Parse
 pub mod Reads
 pub mod Canonical
 pub mod Accepts
+pub mod Places
 pub mod Steps
