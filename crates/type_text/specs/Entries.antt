@@ -3,7 +3,7 @@
 use Prim.Native.Nat.{ℕ, zero, suc, _+_, _-_, _≤_, _<_}
 use native.Mathlib.Omega.{arith}
 use native.Mathlib.Nat.{zero-add}
-use mathlib.Core.Path.{_≡_, refl, sym, ap, _∙_}
+use mathlib.Core.Path.{_≡_, refl, sym, ap, _∙_, subst}
 use mathlib.Core.Logic.{_≢_, _↔_}
 use mathlib.Core.Bool.{Bool, true, false}
 use mathlib.Core.List.{List, [], _∷_, _++_, append-nil}
@@ -22,6 +22,7 @@ use Rattle.type_grammar.specs.Parse.{productOf, endsAt, parse}
 use Rattle.type_grammar.specs.Reads.{whole-is-read, denoted-is-read}
 use Rattle.type_grammar.specs.Accepts.{and-first, ends-got, accepted-denotes}
 use Rattle.type_grammar.specs.Canonical.{text-denotes}
+use Rattle.type_grammar.specs.Places.{Verdict, misfit, too-deep, verdict, judged, place-rule}
 use Rattle.type_text.specs.declared.Answer.{Answer}
 use Rattle.type_text.specs.declared.Answer.the-variants.{Done, Bad, Malformed, Deep, NoRoom}
 use Rattle.type_text.specs.Answer.{numberOf, lengthOf, writtenBy, writeAnswer, writtenPage, writePage, readBy, readAnswer, recordPage, readPage}
@@ -258,3 +259,75 @@ module _ (tab : List ℕ) (good : goodTable tab ≡ true) (t : Ty) (below : Belo
       ap (λ (l : List ℕ). readPage l tab other) back
       ∙ read-leaves x tab other (length (spell t)) t (length x) (is-read x tab other good t den d space)
       (whole-is-read ns (table-usable tab ns (good-is-table tab good)) 32 x t den) refl
+
+-- ---- the reader's answer, whole
+
+-- each answer exactly when its condition is the first to hold: a bad table; a token that does not fit or an operand under 33 brackets, whichever
+-- the place rule meets; a type deeper than 64; a record longer than the page
+pub data Answers (s tab page : List ℕ) : Answer → Type 0 where
+  table-bad : goodTable tab ≡ false → Answers s tab page Bad
+  token-misfits : {p : ℕ} → goodTable tab ≡ true → verdict (names tab) s ≡ misfit p → Answers s tab page (Malformed p)
+  nested-deep : {p : ℕ} → goodTable tab ≡ true → verdict (names tab) s ≡ too-deep p → Answers s tab page (Deep p)
+  type-deep : {t : Ty} → goodTable tab ≡ true → Denotes (names tab) whole 32 s t → 64 < depth t → Answers s tab page (Deep 0)
+  page-short : {t : Ty} → goodTable tab ≡ true → Denotes (names tab) whole 32 s t → depth t ≤ 64 → length page < length (spell t) → Answers s tab page NoRoom
+  record-laid : {t : Ty} → goodTable tab ≡ true → Denotes (names tab) whole 32 s t → depth t ≤ 64 → length (spell t) ≤ length page → Answers s tab page (Done (length (spell t)))
+
+judged-misfit : (ns : List (List ℕ)) (u : Usable ns) (s : List ℕ) (x : TypeAt) (p : ℕ) → judged ns u s x ≡ misfit p → x ≡ malformed p
+unfolding judged
+judged-misfit ns u s (got t e) p h = absurd (let z : _≡_ {A = ℕ} 0 1 = cc in omega arith)
+judged-misfit ns u s (malformed q) p h = ap malformed (let z : q ≡ p = cc in z)
+judged-misfit ns u s (deep q) p h = absurd (let z : _≡_ {A = ℕ} 0 1 = cc in omega arith)
+
+judged-deep : (ns : List (List ℕ)) (u : Usable ns) (s : List ℕ) (x : TypeAt) (p : ℕ) → judged ns u s x ≡ too-deep p → x ≡ deep p
+unfolding judged
+judged-deep ns u s (got t e) p h = absurd (let z : _≡_ {A = ℕ} 0 1 = cc in omega arith)
+judged-deep ns u s (malformed q) p h = absurd (let z : _≡_ {A = ℕ} 0 1 = cc in omega arith)
+judged-deep ns u s (deep q) p h = ap deep (let z : q ≡ p = cc in z)
+
+module _ (s tab page : List ℕ) where
+  module _ (good : goodTable tab ≡ true) where
+    usable : Usable (names tab)
+    usable = table-usable tab (names tab) (good-is-table tab good)
+
+    refused-misfit : (p : ℕ) → verdict (names tab) s ≡ misfit p → Malformed p ≡ readAnswer s tab page
+    unfolding answered
+    refused-misfit p v = sym (read-by-parse s tab page good ∙ rw (judged-misfit (names tab) usable s (parse (names tab) s) p (place-rule (names tab) usable s ∙ v)))
+
+    refused-deep : (p : ℕ) → verdict (names tab) s ≡ too-deep p → Deep p ≡ readAnswer s tab page
+    unfolding answered
+    refused-deep p v = sym (read-by-parse s tab page good ∙ rw (judged-deep (names tab) usable s (parse (names tab) s) p (place-rule (names tab) usable s ∙ v)))
+
+    module _ (t : Ty) (w : Denotes (names tab) whole 32 s t) where
+      refused-type : 64 < depth t → Deep 0 ≡ readAnswer s tab page
+      unfolding answered
+      refused-type d = sym (read-by-parse s tab page good ∙ rw (denoted-is-read (names tab) usable s t w, lt-leb (depth t) 64 d))
+
+      refused-page : depth t ≤ 64 → length page < length (spell t) → NoRoom ≡ readAnswer s tab page
+      unfolding answered
+      refused-page d l = sym (read-by-parse s tab page good ∙ rw (denoted-is-read (names tab) usable s t w, le-leb (depth t) 64 d, lt-leb (length (spell t)) (length page) l))
+
+    answers-by : (x : TypeAt) → parse (names tab) s ≡ x → Answers s tab page (answered (length page) x)
+    unfolding answered judged
+    answers-by (malformed p) e = token-misfits {p = p} good (sym (place-rule (names tab) usable s) ∙ rw e)
+    answers-by (deep p) e = nested-deep {p = p} good (sym (place-rule (names tab) usable s) ∙ rw e)
+    answers-by (got t q) e = pass (leb (depth t) 64) refl (leb (length (spell t)) (length page)) refl (accepted-denotes (names tab) s t q e .1)
+      where
+        pass : (a : Bool) → leb (depth t) 64 ≡ a → (b : Bool) → leb (length (spell t)) (length page) ≡ b → Denotes (names tab) whole 32 s t → Answers s tab page (pick a (pick b (Done (length (spell t))) NoRoom) (Deep 0))
+        pass true h true g w = record-laid good w (leb-true (depth t) 64 h) (leb-true (length (spell t)) (length page) g)
+        pass true h false g w = page-short good w (leb-true (depth t) 64 h) (leb-false (length (spell t)) (length page) g)
+        pass false h b g w = type-deep good w (leb-false (depth t) 64 h)
+
+  pub answers-one : (a : Answer) → Answers s tab page a → a ≡ readAnswer s tab page
+  answers-one Bad (table-bad b) = sym (read-bad s tab page b)
+  answers-one (Malformed p) (token-misfits good v) = refused-misfit good p v
+  answers-one (Deep p) (nested-deep good v) = refused-deep good p v
+  answers-one (Deep p) (type-deep {t} good w d) = refused-type good t w d
+  answers-one NoRoom (page-short {t} good w d l) = refused-page good t w d l
+  answers-one (Done n) (record-laid {t} good w d l) = sym (is-read s tab page good t w d l)
+
+  pub read-answers : Answers s tab page (readAnswer s tab page)
+  read-answers = pass (goodTable tab) refl
+    where
+      pass : (b : Bool) → goodTable tab ≡ b → Answers s tab page (readAnswer s tab page)
+      pass true h = subst (λ (a : Answer). Answers s tab page a) (sym (read-by-parse s tab page h)) (answers-by h (parse (names tab) s) refl)
+      pass false h = subst (λ (a : Answer). Answers s tab page a) (sym (read-bad s tab page h)) (table-bad h)
