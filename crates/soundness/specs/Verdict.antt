@@ -119,18 +119,18 @@ module _ (Γ : Env) (f : Formula) (s : Bench) (ran : Ran (size Γ f) (start (zer
     all-typed = one (n .types) (g .types) (typings-exist Γ f (size Γ f) (zeros (3 * size Γ f)) s ran .0 e, one-typing Γ f (size Γ f) (zeros (3 * size Γ f)) s ran e .0 all-fixed) told-typing
 
   -- ---- the walk listed something: no typing
-  kind-of : (z : ℕ × ℕ) → In z (s .problems) → (z .0 < 2) ⊎ ((z .0 ≡ 4) ⊎ (z .0 ≡ 5))
+  kind-of : (z : ℕ × ℕ) → In z (s .problems) → OfWalk (problemOf z)
   unfolding start
   kind-of z h = go (ran .whence z h)
     where
-      own : (z .0 ≡ 0) ⊎ (z .0 ≡ 4) ⊎ (z .0 ≡ 5) → (z .0 < 2) ⊎ ((z .0 ≡ 4) ⊎ (z .0 ≡ 5))
+      own : (z .0 ≡ 0) ⊎ (z .0 ≡ 4) ⊎ (z .0 ≡ 5) → OfWalk (problemOf z)
       own (inl q) = inl (omega arith)
       own (inr q) = inr q
 
-      go : Whence z [] (listed (walked Γ f .ops)) → (z .0 < 2) ⊎ ((z .0 ≡ 4) ⊎ (z .0 ≡ 5))
+      go : Whence z [] (listed (walked Γ f .ops)) → OfWalk (problemOf z)
       go (before i) = absurd i
       go (listing i) = own (excluded-kinds f z (subst (In z) (own-listed Γ f) i))
-      go (failing l) = inl l
+      go (failing l) = inl (omega arith)
 
   some-as : (P : Problem → Type 0) (z : ℕ × ℕ) (ps : List Problem) → P (problemOf z) → SomeOf (λ p. p ≡ problemOf z) ps → SomeOf P ps
   some-as P z ps h i = some-map (λ p. p ≡ problemOf z) P (λ p e. subst P (sym e) h) ps i
@@ -141,7 +141,7 @@ module _ (Γ : Env) (f : Formula) (s : Bench) (ran : Ran (size Γ f) (start (zer
       none (walkProblems (s .problems) ++ ps)
       (λ t. nothing (sym e ∙ typings-exist Γ f (size Γ f) (zeros (3 * size Γ f)) s ran .1 t))
       (some-as OfWalk z (walkProblems (s .problems) ++ ps) (kind-of z i) (walk-listed z (s .problems) ps i))
-      (λ x. some-as Clash z (walkProblems (s .problems) ++ ps) (clash-kinds Γ f (size Γ f) (zeros (3 * size Γ f)) s ran x z i) (walk-listed z (s .problems) ps i))
+      (λ x. some-as Clash z (walkProblems (s .problems) ++ ps) (let l = clash-kinds Γ f (size Γ f) (zeros (3 * size Γ f)) s ran x z i in omega arith) (walk-listed z (s .problems) ps i))
       (λ y h. walk-listed y (s .problems) ps (excluded-listed Γ f (size Γ f) (zeros (3 * size Γ f)) s ran y h))
     where
       nothing : z ∷ zs ≡ [] → ⊥
