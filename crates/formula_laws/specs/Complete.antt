@@ -6,7 +6,7 @@ use mathlib.Core.Bool.{Bool, true, false}
 use mathlib.Core.List.{List, [], _∷_, _++_, append-assoc}
 use lib.ListN.{length, getD, drop}
 use lib.Dec.{leb, ltb, eqb}
-use borrow.Author.Tests.{lt-ltb, le-ltb, le-leb}
+use borrow.Author.Tests.{lt-ltb, le-ltb, le-leb, ne-eqb}
 use Rattle.types.specs.declared.Name.{Name}
 use Rattle.types.specs.declared.Place.{Place}
 use Rattle.types.specs.Ty as T
@@ -217,3 +217,288 @@ module _ (s : List ℕ) (p : ℕ) where
   pub head-target : (names n : ℕ) (r : List ℕ) → n < names → drop p s ≡ 0x01 ∷ n % 256 ∷ n / 256 ∷ r → targetAt names s (place p) ≡ W.Of n (place (p + 3))
   unfolding targetAt onByte
   head-target names n r l h = rw (byte-here s p 0x01 _ h, name-here s (p + 1) names n r l (after-one s p _ _ h), more-by 1 2 3 refl)
+
+-- ---- types and declarations
+
+own-here : (e : Place) (p k o : ℕ) → k < max-slots → ownOf e (state p k o) ≡ Next (record { at = e; slots = k + 1; opened = o })
+unfolding ownOf
+own-here e p k o h = rw (lt-ltb k max-slots h)
+
+declare-here : (e : Place) (p k o : ℕ) → k < max-slots → o < max-opened → declareOf e (state p k o) ≡ Next (record { at = e; slots = k + 1; opened = o + 1 })
+unfolding declareOf
+declare-here e p k o h l = rw (lt-ltb o max-opened l, lt-ltb k max-slots h)
+
+false-true : false ≡ true → ⊥
+false-true e = let z : _≡_ {A = ℕ} 0 1 = cc in omega arith
+
+-- where no 0C may stand, none does
+not-bare : (bare : Bool) → (bare ≡ true → false ≡ true) → bare ≡ false
+not-bare true h = absurd (false-true (h refl))
+not-bare false h = refl
+
+-- the same state by other sums
+state-is : {A : Type 0} (p q k l o r : ℕ) (a : A) → p ≡ q → k ≡ l → o ≡ r → _≡_ {A = Got A} (ok (state p k o) a) (ok (state q l r) a)
+state-is p q k l o r a h i j = rw (h, i, j)
+
+module _ (names : ℕ) (s : List ℕ) where
+  pub type-here : (t : Ty) (d left p k o : ℕ) (r : List ℕ) → d + left ≡ levels → Fits-ty names d t → drop p s ≡ T.spell t ++ r → typeIn names s left (state p k o) ≡ ok (state (p + size-ty t) k o) t
+  unfolding typeIn typeGot moved Fits-ty
+  type-here t d left p k o r l f h =
+      let m = f .0 in
+      rw (spelled-is-read names s t (f .1) left p r (omega arith) h, length-ty t)
+
+  past-ty : (t : Ty) (p : ℕ) (r : List ℕ) → drop p s ≡ T.spell t ++ r → drop (p + size-ty t) s ≡ r
+  past-ty t p r h = rw (← length-ty t) (past s p (T.spell t) r h)
+
+  -- a type never begins with 4F
+  not-none : (t : Ty) (r l : List ℕ) (b : ℕ) → T.spell t ++ r ≡ b ∷ l → b ≡ 0x4F → ⊥
+  unfolding T.spell T.spellAtom
+  not-none (T.base T.bool) r l b e z = let y : b ≡ 0x40 = cc in omega arith
+  not-none (T.base T.int) r l b e z = let y : b ≡ 0x41 = cc in omega arith
+  not-none (T.base (T.given n)) r l b e z = let y : b ≡ 0x42 = cc in omega arith
+  not-none (T.pow t) r l b e z = let y : b ≡ 0x43 = cc in omega arith
+  not-none (T.prod t u) r l b e z = let y : b ≡ 0x44 = cc in omega arith
+
+  spelled-here : (t : Ty) (d left p k o : ℕ) (r : List ℕ) → d + left ≡ levels → Fits-ty names d t → drop p s ≡ T.spell t ++ r → spellingIn names s left (state p k o) ≡ ok (state (p + size-ty t) k o) (spells t)
+  unfolding spellingIn spelledIn onByte andThen byteAt byteOf
+  spelled-here t d left p k o r l f h = go (drop p s) refl
+    where
+      read : spelledIn names s left (state p k o) ≡ ok (state (p + size-ty t) k o) (spells t)
+      read = rw (type-here t d left p k o r l f h)
+
+      go : (x : List ℕ) → drop p s ≡ x → (onByte (spelledIn names s left (state p k o)) (byteOf p x) λ b e. pick (eqb b 0x4F) (noType left e (state p k o)) (spelledIn names s left (state p k o))) ≡ ok (state (p + size-ty t) k o) (spells t)
+      go [] e = read
+      go (b ∷ x) e = rw (ne-eqb b 0x4F (not-none t r x b (sym h ∙ e))) read
+
+  none-here : (d left p k o : ℕ) (r : List ℕ) → d + left ≡ levels → d ≤ max-depth → drop p s ≡ 0x4F ∷ r → spellingIn names s left (state p k o) ≡ ok (state (p + 1) k o) no-type
+  unfolding spellingIn onByte noType moved
+  none-here d zero p k o r l f h = absurd (omega arith)
+  none-here d (suc left) p k o r l f h = rw (byte-here s p 0x4F r h)
+
+  pub spelling-here : (x : Spelling) (d left p k o : ℕ) (r : List ℕ) → d + left ≡ levels → Fits-spelling names d x → drop p s ≡ spell-spelling x ++ r → spellingIn names s left (state p k o) ≡ ok (state (p + size-spelling x) k o) x
+  unfolding Fits-spelling spell-spelling size-spelling
+  spelling-here (spells t) d left p k o r l f h = spelled-here t d left p k o r l f h
+  spelling-here no-type d left p k o r l f h = none-here d left p k o r l f h
+
+  decl-node : (left p k o : ℕ) (g : DeclHead) → declHead s (place p) ≡ D.Is g → declAt names s (suc left) (state p k o) ≡ declBy names s left (state p k o) g
+  unfolding declAt declIf
+  decl-node left p k o g h = rw h
+
+  pub decl-here : (x : Decl) (d left p k o : ℕ) (r : List ℕ) → d + left ≡ levels → Fits-decl names d x → Placed-decl p x → k < max-slots → o < max-opened → drop p s ≡ spell-decl x ++ r → declAt names s left (state p k o) ≡ ok (state (p + size-decl x) (k + 1) (o + 1)) x
+  unfolding Fits-decl Placed-decl spell-decl size-decl declBy onNext andThen
+  decl-here (plain q) d zero p k o r l f a i j h = absurd (omega arith)
+  decl-here (typed q t) d zero p k o r l f a i j h = let m = f .0 in absurd (omega arith)
+  decl-here (annotated q x) d zero p k o r l f a i j h = let m = f .0 in absurd (omega arith)
+  decl-here (plain q) d (suc left) p k o r l f a i j h =
+      decl-node left p k o _ (head-plain s p r h) ∙ (rw (declare-here (place (p + 1)) p k o i j, a))
+  decl-here (typed q t) d (suc left) p k o r l f a i j h =
+      decl-node left p k o _ (head-typed s p _ h)
+      ∙ (rw (declare-here (place (p + 1)) p k o i j, type-here t (suc d) left (p + 1) (k + 1) (o + 1) r (let y : suc d + left ≡ levels = omega arith in y) (f .1) (after-one s p _ _ h), a)
+      (state-is _ _ _ _ _ _ _ (let y : p + 1 + size-ty t ≡ p + (1 + size-ty t) = omega arith in y) refl refl))
+  decl-here (annotated q x) d (suc left) p k o r l f a i j h =
+      decl-node left p k o _ (head-annotated s p _ h)
+      ∙ (rw (declare-here (place (p + 1)) p k o i j, spelling-here x (suc d) left (p + 1) (k + 1) (o + 1) r (let y : suc d + left ≡ levels = omega arith in y) (f .1) (after-one s p _ _ h), a)
+      (state-is _ _ _ _ _ _ _ (let y : p + 1 + size-spelling x ≡ p + (1 + size-spelling x) = omega arith in y) refl refl))
+
+  past-decl : (x : Decl) (p : ℕ) (r : List ℕ) → drop p s ≡ spell-decl x ++ r → drop (p + size-decl x) s ≡ r
+  past-decl x p r h = rw (← length-decl x) (past s p (spell-decl x) r h)
+
+  pub decls-here : (xs : List Decl) (d left p k o : ℕ) (r : List ℕ) → d + left ≡ levels → Fits-decls names d xs → Placed-decls p xs → k + decls xs ≤ max-slots → o + decls xs ≤ max-opened → drop p s ≡ spell-decls xs ++ r
+      → many [] _∷_ (declAt names s left) (decls xs) (state p k o) ≡ ok (state (p + size-decls xs) (k + decls xs) (o + decls xs)) xs
+  unfolding many decls Fits-decls Placed-decls spell-decls size-decls andThen
+  decls-here [] d left p k o r l f a i j h = state-is _ _ _ _ _ _ _ (let y : p ≡ p + 0 = omega arith in y) (let y : k ≡ k + 0 = omega arith in y) (let y : o ≡ o + 0 = omega arith in y)
+  decls-here (x ∷ xs) d left p k o r l f a i j h =
+      let e : drop p s ≡ spell-decl x ++ (spell-decls xs ++ r) = h ∙ append-assoc (spell-decl x) (spell-decls xs) r in
+      rw (
+        decl-here x d left p k o (spell-decls xs ++ r) l (f .0) (a .0) (omega arith) (omega arith) e,
+        decls-here xs d left (p + size-decl x) (k + 1) (o + 1) r l (f .1) (a .1) (omega arith) (omega arith) (past-decl x p (spell-decls xs ++ r) e),
+      )
+      (state-is _ _ _ _ _ _ _ (let y : p + size-decl x + size-decls xs ≡ p + (size-decl x + size-decls xs) = omega arith in y) (let y : k + 1 + decls xs ≡ k + suc (decls xs) = omega arith in y) (let y : o + 1 + decls xs ≡ o + suc (decls xs) = omega arith in y))
+
+  -- ---- expressions and predicates
+
+  past-expr : (a : Expr) (p : ℕ) (r : List ℕ) → drop p s ≡ spell a ++ r → drop (p + size a) s ≡ r
+  past-expr a p r h = rw (← length-expr a) (past s p (spell a) r h)
+
+  past-pred : (a : Pred) (p : ℕ) (r : List ℕ) → drop p s ≡ spell-pred a ++ r → drop (p + size-pred a) s ≡ r
+  past-pred a p r h = rw (← length-pred a) (past s p (spell-pred a) r h)
+
+  past-decls : (a : List Decl) (p : ℕ) (r : List ℕ) → drop p s ≡ spell-decls a ++ r → drop (p + size-decls a) s ≡ r
+  past-decls a p r h = rw (← length-decls a) (past s p (spell-decls a) r h)
+
+  expr-node : (left p k o : ℕ) (bare : Bool) (g : ExprHead) → exprHead names s bare (place p) ≡ E.Is g → exprAt (suc left) names s bare (state p k o) ≡ exprBy names s left (λ b t. exprAt left names s b t) (λ t. predAt left names s t) (state p k o) g
+  unfolding exprAt exprIf
+  expr-node left p k o bare g h = rw h
+
+  pred-node : (left p k o : ℕ) (g : PredHead) → predHead s (place p) ≡ P.Is g → predAt (suc left) names s (state p k o) ≡ predBy names s left (λ b t. exprAt left names s b t) (λ t. predAt left names s t) (state p k o) g
+  unfolding predAt predIf
+  pred-node left p k o g h = rw h
+
+  below : (d left : ℕ) → d + suc left ≡ levels → suc d + left ≡ levels
+  below d left h = omega arith
+
+  mutual
+    unfolding Fits Fits-all Fits-pred Fits-preds Placed Placed-all Placed-pred Placed-preds spell spell-all spell-pred spell-preds size size-all size-pred size-preds slots slots-all slots-pred slots-preds exprs preds exprBy predBy onNext andThen many closing closed moved declsAt is-bare
+
+    pub expr-here : (e : Expr) (left d p k o : ℕ) (bare : Bool) (r : List ℕ) → d + left ≡ levels → Fits names d o e → Placed p e → (bare ≡ true → is-bare e ≡ true) → k + slots e ≤ max-slots → drop p s ≡ spell e ++ r → exprAt left names s bare (state p k o) ≡ ok (state (p + size e) (k + slots e) o) e
+    expr-here (free q n) zero d p k o bare r l f y g m h = absurd (let z = f .0 in omega arith)
+    expr-here (bound q i) zero d p k o bare r l f y g m h = absurd (omega arith)
+    expr-here (literal q) zero d p k o bare r l f y g m h = absurd (omega arith)
+    expr-here (atomic q c) zero d p k o bare r l f y g m h = absurd (let z = f .0 in omega arith)
+    expr-here (extension q es) zero d p k o bare r l f y g m h = absurd (let z = f .0 in omega arith)
+    expr-here (truth q x) zero d p k o bare r l f y g m h = absurd (let z = f .0 in omega arith)
+    expr-here (binary q c a b) zero d p k o bare r l f y g m h = absurd (let z = f .0 in omega arith)
+    expr-here (associative q c es) zero d p k o bare r l f y g m h = absurd (let z = f .0 in omega arith)
+    expr-here (unary q c a) zero d p k o bare r l f y g m h = absurd (let z = f .0 in omega arith)
+    expr-here (quantified q c ds x a) zero d p k o bare r l f y g m h = absurd (let z = f .0 in omega arith)
+    expr-here (ascribed q a w x) zero d p k o bare r l f y g m h = absurd (let z = f .0 in omega arith)
+    expr-here (explicit q t a) zero d p k o bare r l f y g m h = absurd (let z = f .0 in omega arith)
+    expr-here (free q n) (suc left) d p k o bare r l f y g m h =
+        expr-node left p k o bare _ (head-free names s bare p n r (f .1) h) ∙ (rw (own-here (place (p + 3)) p k o (omega arith), y))
+    expr-here (bound q i) (suc left) d p k o bare r l f y g m h =
+        expr-node left p k o bare _ (head-bound names s bare p i r h) ∙ (rw (own-here (place (p + 3)) p k o (omega arith), y))
+    expr-here (literal q) (suc left) d p k o bare r l f y g m h =
+        expr-node left p k o bare _ (head-literal names s bare p r h) ∙ (rw (own-here (place (p + 1)) p k o (omega arith), y))
+    expr-here (atomic q c) (suc left) d p k o bare r l f y g m h =
+        expr-node left p k o bare _ (head-atomic names s bare p c r (f .1) h) ∙ (rw (own-here (place (p + 2)) p k o (omega arith), y))
+    expr-here (extension q es) (suc left) d p k o bare r l f y g m h =
+        expr-node left p k o bare _ (head-extension names s bare p (exprs es) _ (f .1) h)
+        ∙ (rw (own-here (place (p + 3)) p k o (omega arith), exprs-here es left (suc d) (p + 3) (k + 1) o r (below d left l) (f .2) (y .1) (omega arith) (after-three s p _ _ _ _ h), y .0)
+        (state-is _ _ _ _ _ _ _ (let z : p + 3 + size-all es ≡ p + (3 + size-all es) = omega arith in z) (let z : k + 1 + slots-all es ≡ k + suc (slots-all es) = omega arith in z) refl))
+    expr-here (truth q x) (suc left) d p k o bare r l f y g m h =
+        expr-node left p k o bare _ (head-truth names s bare p _ h)
+        ∙ (rw (own-here (place (p + 1)) p k o (omega arith), pred-here x left (suc d) (p + 1) (k + 1) o r (below d left l) (f .1) (y .1) (omega arith) (after-one s p _ _ h), y .0)
+        (state-is _ _ _ _ _ _ _ (let z : p + 1 + size-pred x ≡ p + (1 + size-pred x) = omega arith in z) (let z : k + 1 + slots-pred x ≡ k + suc (slots-pred x) = omega arith in z) refl))
+    expr-here (binary q c a b) (suc left) d p k o bare r l f y g m h =
+        let e : drop (p + 2) s ≡ spell a ++ (spell b ++ r) = after-two s p _ _ _ h ∙ append-assoc (spell a) (spell b) r in
+        expr-node left p k o bare _ (head-binary names s bare p c _ (f .1) h)
+        ∙ (rw (
+          own-here (place (p + 2)) p k o (omega arith),
+          expr-here a left (suc d) (p + 2) (k + 1) o false (spell b ++ r) (below d left l) (f .2) (y .1) (λ z. absurd (false-true z)) (omega arith) e,
+          expr-here b left (suc d) (p + 2 + size a) (k + 1 + slots a) o false r (below d left l) (f .3) (y .2) (λ z. absurd (false-true z)) (omega arith) (past-expr a (p + 2) (spell b ++ r) e),
+          y .0,
+        )
+        (state-is _ _ _ _ _ _ _ (let z : p + 2 + size a + size b ≡ p + (2 + (size a + size b)) = omega arith in z) (let z : k + 1 + slots a + slots b ≡ k + suc (slots a + slots b) = omega arith in z) refl))
+    expr-here (associative q c es) (suc left) d p k o bare r l f y g m h =
+        expr-node left p k o bare _ (head-associative names s bare p c (exprs es) _ (f .1) (f .2) h)
+        ∙ (rw (own-here (place (p + 4)) p k o (omega arith), exprs-here es left (suc d) (p + 4) (k + 1) o r (below d left l) (f .3) (y .1) (omega arith) (after-four s p _ _ _ _ _ h), y .0)
+        (state-is _ _ _ _ _ _ _ (let z : p + 4 + size-all es ≡ p + (4 + size-all es) = omega arith in z) (let z : k + 1 + slots-all es ≡ k + suc (slots-all es) = omega arith in z) refl))
+    expr-here (unary q c a) (suc left) d p k o bare r l f y g m h =
+        expr-node left p k o bare _ (head-unary names s bare p c _ (f .1) h)
+        ∙ (rw (own-here (place (p + 2)) p k o (omega arith), expr-here a left (suc d) (p + 2) (k + 1) o false r (below d left l) (f .2) (y .1) (λ z. absurd (false-true z)) (omega arith) (after-two s p _ _ _ h), y .0)
+        (state-is _ _ _ _ _ _ _ (let z : p + 2 + size a ≡ p + (2 + size a) = omega arith in z) (let z : k + 1 + slots a ≡ k + suc (slots a) = omega arith in z) refl))
+    expr-here (quantified q c ds x a) (suc left) d p k o bare r l f y g m h =
+        let e : drop (p + 3) s ≡ spell-decls ds ++ (spell-pred x ++ (spell a ++ r)) = after-three s p _ _ _ _ h ∙ append-assoc (spell-decls ds) (spell-pred x ++ spell a) r ∙ ap (λ (w : List ℕ). spell-decls ds ++ w) (append-assoc (spell-pred x) (spell a) r) in
+        let i : drop (p + 3 + size-decls ds) s ≡ spell-pred x ++ (spell a ++ r) = past-decls ds (p + 3) _ e in
+        expr-node left p k o bare _ (head-quantified names s bare p c (decls ds) _ (f .1) (f .2) h)
+        ∙ (rw (
+          own-here (place (p + 3)) p k o (omega arith),
+          decls-here ds (suc d) left (p + 3) (k + 1) o (spell-pred x ++ (spell a ++ r)) (below d left l) (f .4) (y .1) (omega arith) (f .3) e,
+          pred-here x left (suc d) (p + 3 + size-decls ds) (k + 1 + decls ds) (o + decls ds) (spell a ++ r) (below d left l) (f .5) (y .2) (omega arith) i,
+          expr-here a left (suc d) (p + 3 + size-decls ds + size-pred x) (k + 1 + decls ds + slots-pred x) (o + decls ds) false r (below d left l) (f .6) (y .3) (λ z. absurd (false-true z)) (omega arith) (past-pred x (p + 3 + size-decls ds) (spell a ++ r) i),
+          y .0,
+        )
+        (state-is _ _ _ _ _ _ _ (let z : p + 3 + size-decls ds + size-pred x + size a ≡ p + (3 + (size-decls ds + (size-pred x + size a))) = omega arith in z) (let z : k + 1 + decls ds + slots-pred x + slots a ≡ k + suc (decls ds + (slots-pred x + slots a)) = omega arith in z) refl))
+    expr-here (ascribed q a w x) (suc left) d p k o bare r l f y g m h =
+        let e : drop (p + 1) s ≡ spell a ++ (spell-spelling x ++ r) = after-one s p _ _ h ∙ append-assoc (spell a) (spell-spelling x) r in
+        expr-node left p k o bare _ (head-ascribed names s bare p _ h)
+        ∙ (rw (
+          own-here (place (p + 1)) p k o (omega arith),
+          expr-here a left (suc d) (p + 1) (k + 1) o false (spell-spelling x ++ r) (below d left l) (f .1) (y .1) (λ z. absurd (false-true z)) (omega arith) e,
+          spelling-here x (suc d) left (p + 1 + size a) (k + 1 + slots a) o r (below d left l) (f .2) (past-expr a (p + 1) (spell-spelling x ++ r) e),
+          y .0,
+          y .2,
+        )
+        (state-is _ _ _ _ _ _ _ (let z : p + 1 + size a + size-spelling x ≡ p + (1 + (size a + size-spelling x)) = omega arith in z) (let z : k + 1 + slots a ≡ k + suc (slots a) = omega arith in z) refl))
+    expr-here (explicit q t a) (suc left) d p k o bare r l f y g m h =
+        let e : drop (p + 1) s ≡ T.spell t ++ (spell a ++ r) = after-one s p _ _ h ∙ append-assoc (T.spell t) (spell a) r in
+        expr-node left p k o bare _ (head-explicit names s bare p _ (not-bare bare g) h)
+        ∙ (rw (
+          type-here t (suc d) left (p + 1) k o (spell a ++ r) (below d left l) (f .1) e,
+          expr-here a left (suc d) (p + 1 + size-ty t) k o true r (below d left l) (f .3) (y .1) (λ z. f .2) (omega arith) (past-ty t (p + 1) (spell a ++ r) e),
+          y .0,
+        )
+        (state-is _ _ _ _ _ _ _ (let z : p + 1 + size-ty t + size a ≡ p + (1 + (size-ty t + size a)) = omega arith in z) refl refl))
+
+    pub exprs-here : (es : Exprs) (left d p k o : ℕ) (r : List ℕ) → d + left ≡ levels → Fits-all names d o es → Placed-all p es → k + slots-all es ≤ max-slots → drop p s ≡ spell-all es ++ r → many none more (λ t. exprAt left names s false t) (exprs es) (state p k o) ≡ ok (state (p + size-all es) (k + slots-all es) o) es
+    exprs-here none left d p k o r l f y m h = state-is _ _ _ _ _ _ _ (let z : p ≡ p + 0 = omega arith in z) (let z : k ≡ k + 0 = omega arith in z) refl
+    exprs-here (more a es) left d p k o r l f y m h =
+        let e : drop p s ≡ spell a ++ (spell-all es ++ r) = h ∙ append-assoc (spell a) (spell-all es) r in
+        rw (
+          expr-here a left d p k o false (spell-all es ++ r) l (f .0) (y .0) (λ z. absurd (false-true z)) (omega arith) e,
+          exprs-here es left d (p + size a) (k + slots a) o r l (f .1) (y .1) (omega arith) (past-expr a p (spell-all es ++ r) e),
+        )
+        (state-is _ _ _ _ _ _ _ (let z : p + size a + size-all es ≡ p + (size a + size-all es) = omega arith in z) (let z : k + slots a + slots-all es ≡ k + (slots a + slots-all es) = omega arith in z) refl)
+
+    pub pred-here : (x : Pred) (left d p k o : ℕ) (r : List ℕ) → d + left ≡ levels → Fits-pred names d o x → Placed-pred p x → k + slots-pred x ≤ max-slots → drop p s ≡ spell-pred x ++ r → predAt left names s (state p k o) ≡ ok (state (p + size-pred x) (k + slots-pred x) o) x
+    pred-here (constant q) zero d p k o r l f y m h = absurd (omega arith)
+    pred-here (variable q) zero d p k o r l f y m h = absurd (omega arith)
+    pred-here (relational q c a b) zero d p k o r l f y m h = absurd (let z = f .0 in omega arith)
+    pred-here (connective q a b) zero d p k o r l f y m h = absurd (let z = f .0 in omega arith)
+    pred-here (junction q qs) zero d p k o r l f y m h = absurd (let z = f .0 in omega arith)
+    pred-here (negation q a) zero d p k o r l f y m h = absurd (let z = f .0 in omega arith)
+    pred-here (quantification q ds a) zero d p k o r l f y m h = absurd (let z = f .0 in omega arith)
+    pred-here (simple q a) zero d p k o r l f y m h = absurd (let z = f .0 in omega arith)
+    pred-here (multiple q es) zero d p k o r l f y m h = absurd (let z = f .0 in omega arith)
+    pred-here (application q es) zero d p k o r l f y m h = absurd (let z = f .0 in omega arith)
+    pred-here (constant q) (suc left) d p k o r l f y m h =
+        pred-node left p k o _ (head-constant s p r h) ∙ (rw y (state-is _ _ _ _ _ _ _ refl (let z : k ≡ k + 0 = omega arith in z) refl))
+    pred-here (variable q) (suc left) d p k o r l f y m h =
+        pred-node left p k o _ (head-variable s p r h) ∙ (rw y (state-is _ _ _ _ _ _ _ refl (let z : k ≡ k + 0 = omega arith in z) refl))
+    pred-here (relational q c a b) (suc left) d p k o r l f y m h =
+        let e : drop (p + 2) s ≡ spell a ++ (spell b ++ r) = after-two s p _ _ _ h ∙ append-assoc (spell a) (spell b) r in
+        pred-node left p k o _ (head-relational s p c _ (f .1) h)
+        ∙ (rw (
+          expr-here a left (suc d) (p + 2) k o false (spell b ++ r) (below d left l) (f .2) (y .1) (λ z. absurd (false-true z)) (omega arith) e,
+          expr-here b left (suc d) (p + 2 + size a) (k + slots a) o false r (below d left l) (f .3) (y .2) (λ z. absurd (false-true z)) (omega arith) (past-expr a (p + 2) (spell b ++ r) e),
+          y .0,
+        )
+        (state-is _ _ _ _ _ _ _ (let z : p + 2 + size a + size b ≡ p + (2 + (size a + size b)) = omega arith in z) (let z : k + slots a + slots b ≡ k + (slots a + slots b) = omega arith in z) refl))
+    pred-here (connective q a b) (suc left) d p k o r l f y m h =
+        let e : drop (p + 1) s ≡ spell-pred a ++ (spell-pred b ++ r) = after-one s p _ _ h ∙ append-assoc (spell-pred a) (spell-pred b) r in
+        pred-node left p k o _ (head-connective s p _ h)
+        ∙ (rw (
+          pred-here a left (suc d) (p + 1) k o (spell-pred b ++ r) (below d left l) (f .1) (y .1) (omega arith) e,
+          pred-here b left (suc d) (p + 1 + size-pred a) (k + slots-pred a) o r (below d left l) (f .2) (y .2) (omega arith) (past-pred a (p + 1) (spell-pred b ++ r) e),
+          y .0,
+        )
+        (state-is _ _ _ _ _ _ _ (let z : p + 1 + size-pred a + size-pred b ≡ p + (1 + (size-pred a + size-pred b)) = omega arith in z) (let z : k + slots-pred a + slots-pred b ≡ k + (slots-pred a + slots-pred b) = omega arith in z) refl))
+    pred-here (junction q qs) (suc left) d p k o r l f y m h =
+        pred-node left p k o _ (head-junction s p (preds qs) _ (f .1) h)
+        ∙ (rw (preds-here qs left (suc d) (p + 3) k o r (below d left l) (f .2) (y .1) (omega arith) (after-three s p _ _ _ _ h), y .0)
+        (state-is _ _ _ _ _ _ _ (let z : p + 3 + size-preds qs ≡ p + (3 + size-preds qs) = omega arith in z) refl refl))
+    pred-here (negation q a) (suc left) d p k o r l f y m h =
+        pred-node left p k o _ (head-negation s p _ h)
+        ∙ (rw (pred-here a left (suc d) (p + 1) k o r (below d left l) (f .1) (y .1) (omega arith) (after-one s p _ _ h), y .0)
+        (state-is _ _ _ _ _ _ _ (let z : p + 1 + size-pred a ≡ p + (1 + size-pred a) = omega arith in z) refl refl))
+    pred-here (quantification q ds a) (suc left) d p k o r l f y m h =
+        let e : drop (p + 2) s ≡ spell-decls ds ++ (spell-pred a ++ r) = after-two s p _ _ _ h ∙ append-assoc (spell-decls ds) (spell-pred a) r in
+        pred-node left p k o _ (head-quantification s p (decls ds) _ (f .1) h)
+        ∙ (rw (
+          decls-here ds (suc d) left (p + 2) k o (spell-pred a ++ r) (below d left l) (f .3) (y .1) (omega arith) (f .2) e,
+          pred-here a left (suc d) (p + 2 + size-decls ds) (k + decls ds) (o + decls ds) r (below d left l) (f .4) (y .2) (omega arith) (past-decls ds (p + 2) (spell-pred a ++ r) e),
+          y .0,
+        )
+        (state-is _ _ _ _ _ _ _ (let z : p + 2 + size-decls ds + size-pred a ≡ p + (2 + (size-decls ds + size-pred a)) = omega arith in z) (let z : k + decls ds + slots-pred a ≡ k + (decls ds + slots-pred a) = omega arith in z) refl))
+    pred-here (simple q a) (suc left) d p k o r l f y m h =
+        pred-node left p k o _ (head-simple s p _ h)
+        ∙ (rw (expr-here a left (suc d) (p + 1) k o false r (below d left l) (f .1) (y .1) (λ z. absurd (false-true z)) (omega arith) (after-one s p _ _ h), y .0)
+        (state-is _ _ _ _ _ _ _ (let z : p + 1 + size a ≡ p + (1 + size a) = omega arith in z) refl refl))
+    pred-here (multiple q es) (suc left) d p k o r l f y m h =
+        pred-node left p k o _ (head-multiple s p (exprs es) _ (f .1) h)
+        ∙ (rw (exprs-here es left (suc d) (p + 3) k o r (below d left l) (f .2) (y .1) (omega arith) (after-three s p _ _ _ _ h), y .0)
+        (state-is _ _ _ _ _ _ _ (let z : p + 3 + size-all es ≡ p + (3 + size-all es) = omega arith in z) refl refl))
+    pred-here (application q es) (suc left) d p k o r l f y m h =
+        pred-node left p k o _ (head-application s p (exprs es) _ h)
+        ∙ (rw (exprs-here es left (suc d) (p + 3) k o r (below d left l) (f .1) (y .1) (omega arith) (after-three s p _ _ _ _ h), y .0)
+        (state-is _ _ _ _ _ _ _ (let z : p + 3 + size-all es ≡ p + (3 + size-all es) = omega arith in z) refl refl))
+
+    pub preds-here : (qs : Preds) (left d p k o : ℕ) (r : List ℕ) → d + left ≡ levels → Fits-preds names d o qs → Placed-preds p qs → k + slots-preds qs ≤ max-slots → drop p s ≡ spell-preds qs ++ r → many end also (λ t. predAt left names s t) (preds qs) (state p k o) ≡ ok (state (p + size-preds qs) (k + slots-preds qs) o) qs
+    preds-here end left d p k o r l f y m h = state-is _ _ _ _ _ _ _ (let z : p ≡ p + 0 = omega arith in z) (let z : k ≡ k + 0 = omega arith in z) refl
+    preds-here (also a qs) left d p k o r l f y m h =
+        let e : drop p s ≡ spell-pred a ++ (spell-preds qs ++ r) = h ∙ append-assoc (spell-pred a) (spell-preds qs) r in
+        rw (
+          pred-here a left d p k o (spell-preds qs ++ r) l (f .0) (y .0) (omega arith) e,
+          preds-here qs left d (p + size-pred a) (k + slots-pred a) o r l (f .1) (y .1) (omega arith) (past-pred a p (spell-preds qs ++ r) e),
+        )
+        (state-is _ _ _ _ _ _ _ (let z : p + size-pred a + size-preds qs ≡ p + (size-pred a + size-preds qs) = omega arith in z) (let z : k + slots-pred a + slots-preds qs ≡ k + (slots-pred a + slots-preds qs) = omega arith in z) refl)
