@@ -3,7 +3,7 @@ use Prim.Native.Nat.{ℕ, zero, suc, _+_, _*_, _/_, _%_, _≤_, _<_}
 use native.Mathlib.Omega.{arith}
 use mathlib.Core.Path.{_≡_, refl, sym, ap, _∙_}
 use mathlib.Core.Bool.{Bool, true, false}
-use mathlib.Core.List.{List, [], _∷_, _++_, append-assoc}
+use mathlib.Core.List.{List, [], _∷_, _++_, append-assoc, append-nil}
 use lib.ListN.{length, getD, drop}
 use lib.Dec.{leb, ltb, eqb}
 use borrow.Author.Tests.{lt-ltb, le-ltb, le-leb, ne-eqb}
@@ -502,3 +502,153 @@ module _ (names : ℕ) (s : List ℕ) where
           preds-here qs left d (p + size-pred a) (k + slots-pred a) o r l (f .1) (y .1) (omega arith) (past-pred a p (spell-preds qs ++ r) e),
         )
         (state-is _ _ _ _ _ _ _ (let z : p + size-pred a + size-preds qs ≡ p + (size-pred a + size-preds qs) = omega arith in z) (let z : k + slots-pred a + slots-preds qs ≡ k + (slots-pred a + slots-preds qs) = omega arith in z) refl)
+
+  -- ---- formulas
+
+  pub target-here : (t : Target) (p k o : ℕ) (r : List ℕ) → t .name < names → t .place ≡ p → k < max-slots → drop p s ≡ spell-target t ++ r → targetIn names s (state p k o) ≡ ok (state (p + 3) (k + 1) o) t
+  unfolding targetIn targetBy onNext spell-target
+  target-here t p k o r f y m h = rw (head-target s p names (t .name) r f h, own-here (place (p + 3)) p k o m, ← y)
+
+  past-target : (t : Target) (p : ℕ) (r : List ℕ) → drop p s ≡ spell-target t ++ r → drop (p + 3) s ≡ r
+  unfolding spell-target
+  past-target t p r h = after-three s p _ _ _ r h
+
+  pub targets-here : (ts : List Target) (p k o : ℕ) (r : List ℕ) → Fits-targets names ts → Placed-targets p ts → k + targets ts ≤ max-slots → drop p s ≡ spell-targets ts ++ r → targetsAt names s (targets ts) (state p k o) ≡ ok (state (p + size-targets ts) (k + targets ts) o) ts
+  unfolding targetsAt many targets Fits-targets Placed-targets spell-targets size-targets andThen
+  targets-here [] p k o r f y m h = state-is _ _ _ _ _ _ _ (let z : p ≡ p + 0 = omega arith in z) (let z : k ≡ k + 0 = omega arith in z) refl
+  targets-here (t ∷ ts) p k o r f y m h =
+      let e : drop p s ≡ spell-target t ++ (spell-targets ts ++ r) = h ∙ append-assoc (spell-target t) (spell-targets ts) r in
+      rw (
+        target-here t p k o (spell-targets ts ++ r) (f .0) (y .0) (omega arith) e,
+        targets-here ts (p + 3) (k + 1) o r (f .1) (y .1) (omega arith) (past-target t p (spell-targets ts ++ r) e),
+      )
+      (state-is _ _ _ _ _ _ _ (let z : p + 3 + size-targets ts ≡ p + (3 + size-targets ts) = omega arith in z) (let z : k + 1 + targets ts ≡ k + suc (targets ts) = omega arith in z) refl)
+
+  past-targets : (ts : List Target) (p : ℕ) (r : List ℕ) → drop p s ≡ spell-targets ts ++ r → drop (p + size-targets ts) s ≡ r
+  past-targets ts p r h = rw (← length-targets ts) (past s p (spell-targets ts) r h)
+
+  pub pairs-here : (xs : List (Target × Expr)) (p k : ℕ) (r : List ℕ) → Fits-pairs names xs → Placed-pairs p xs → k + slots-pairs xs ≤ max-slots → drop p s ≡ spell-pairs xs ++ r → pairsAt max-depth names s (pairs xs) (state p k 0) ≡ ok (state (p + size-pairs xs) (k + slots-pairs xs) 0) xs
+  unfolding pairsAt pairIn many pairs Fits-pairs Placed-pairs spell-pairs size-pairs slots-pairs andThen
+  pairs-here [] p k r f y m h = state-is _ _ _ _ _ _ _ (let z : p ≡ p + 0 = omega arith in z) (let z : k ≡ k + 0 = omega arith in z) refl
+  pairs-here (x ∷ xs) p k r f y m h =
+      let e : drop p s ≡ spell-target (x .0) ++ (spell (x .1) ++ (spell-pairs xs ++ r)) = h ∙ append-assoc (spell-target (x .0)) (spell (x .1) ++ spell-pairs xs) r ∙ ap (λ (w : List ℕ). spell-target (x .0) ++ w) (append-assoc (spell (x .1)) (spell-pairs xs) r) in
+      let i : drop (p + 3) s ≡ spell (x .1) ++ (spell-pairs xs ++ r) = past-target (x .0) p _ e in
+      rw (
+        target-here (x .0) p k 0 _ (f .0) (y .0) (omega arith) e,
+        expr-here (x .1) max-depth 1 (p + 3) (k + 1) 0 false (spell-pairs xs ++ r) refl (f .1) (y .1) (λ z. absurd (false-true z)) (omega arith) i,
+        pairs-here xs (p + 3 + size (x .1)) (k + 1 + slots (x .1)) r (f .2) (y .2) (omega arith) (past-expr (x .1) (p + 3) (spell-pairs xs ++ r) i),
+      )
+      (state-is _ _ _ _ _ _ _ (let z : p + 3 + size (x .1) + size-pairs xs ≡ p + (3 + (size (x .1) + size-pairs xs)) = omega arith in z) (let z : k + 1 + slots (x .1) + slots-pairs xs ≡ k + (suc (slots (x .1)) + slots-pairs xs) = omega arith in z) refl)
+
+  -- what an expression and a predicate begin with
+  expr-first : (a : Expr) → (b : ℕ) × (l : List ℕ) × (spell a ≡ b ∷ l) × (b < 0x20)
+  unfolding spell
+  expr-first (free p n) = (0x01, _, refl, omega arith)
+  expr-first (bound p i) = (0x02, _, refl, omega arith)
+  expr-first (literal p) = (0x03, _, refl, omega arith)
+  expr-first (atomic p c) = (0x04, _, refl, omega arith)
+  expr-first (extension p es) = (0x05, _, refl, omega arith)
+  expr-first (truth p x) = (0x06, _, refl, omega arith)
+  expr-first (binary p c a b) = (0x07, _, refl, omega arith)
+  expr-first (associative p c es) = (0x08, _, refl, omega arith)
+  expr-first (unary p c a) = (0x09, _, refl, omega arith)
+  expr-first (quantified p c ds x a) = (0x0A, _, refl, omega arith)
+  expr-first (ascribed p a q x) = (0x0B, _, refl, omega arith)
+  expr-first (explicit p t a) = (0x0C, _, refl, omega arith)
+
+  pred-first : (a : Pred) → (b : ℕ) × (l : List ℕ) × (spell-pred a ≡ b ∷ l) × (0x20 ≤ b) × (b < 0x30)
+  unfolding spell-pred
+  pred-first (constant p) = (0x20, _, refl, omega arith, omega arith)
+  pred-first (variable p) = (0x21, _, refl, omega arith, omega arith)
+  pred-first (relational p c a b) = (0x22, _, refl, omega arith, omega arith)
+  pred-first (connective p a b) = (0x23, _, refl, omega arith, omega arith)
+  pred-first (junction p qs) = (0x24, _, refl, omega arith, omega arith)
+  pred-first (negation p a) = (0x25, _, refl, omega arith, omega arith)
+  pred-first (quantification p ds a) = (0x26, _, refl, omega arith, omega arith)
+  pred-first (simple p a) = (0x27, _, refl, omega arith, omega arith)
+  pred-first (multiple p es) = (0x28, _, refl, omega arith, omega arith)
+  pred-first (application p es) = (0x29, _, refl, omega arith, omega arith)
+
+  root-here : (k : ℕ) (l : List ℕ) → drop 0 s ≡ k ∷ l → formulaAt names s start ≡ rootBy names s start k (place 1)
+  unfolding formulaAt onByte
+  root-here k l h = rw (byte-here s 0 k l h)
+
+  becomes-here : (k n : ℕ) (l : List ℕ) → 0x30 ≤ k → 1 ≤ n → drop 0 s ≡ k ∷ n ∷ l → formulaAt names s start ≡ becomesBy max-depth names s n (place 2) start k
+  unfolding rootBy becomesAt onByte
+  becomes-here k n l m i h = root-here k (n ∷ l) h ∙ (rw (le-ltb k 0x20 (omega arith), le-ltb k 0x30 m, few-here s 1 n l i (after-one s 0 k (n ∷ l) h)))
+
+  decl-row : (xs : List Decl) (d left p k o : ℕ) (r : List ℕ) → d + left ≡ levels → Fits-decls names d xs → Placed-decls p xs → k + decls xs ≤ max-slots → o + decls xs ≤ max-opened → drop p s ≡ spell-decls xs ++ r → declsAt names s left (decls xs) (state p k o) ≡ ok (state (p + size-decls xs) (k + decls xs) (o + decls xs)) xs
+  unfolding declsAt
+  decl-row xs d left p k o r l f a i j h = decls-here xs d left p k o r l f a i j h
+
+  becomes-pairs-here : (q : ℕ) (xs : List (Target × Expr)) → slots-pairs xs ≤ max-slots → 1 ≤ pairs xs → Fits-pairs names xs → q ≡ 0 → Placed-pairs 2 xs → drop 0 s ≡ 0x30 ∷ pairs xs ∷ (spell-pairs xs ++ []) → formulaAt names s start ≡ ok (state (2 + size-pairs xs) (slots-pairs xs) 0) (becomes q xs)
+  unfolding becomesBy andThen moved pairs
+  becomes-pairs-here q [] m i f y z h = absurd (omega arith)
+  becomes-pairs-here q (x ∷ xs) m i f y z h =
+      becomes-here 0x30 (pairs (x ∷ xs)) _ (omega arith) i h
+      ∙ (rw (pairs-here (x ∷ xs) 2 0 [] f z (omega arith) (after-two s 0 _ _ _ h), y)
+      (state-is _ _ _ _ _ _ _ refl (let w : 0 + slots-pairs (x ∷ xs) ≡ slots-pairs (x ∷ xs) = omega arith in w) refl))
+
+  becomes-in-here : (q : ℕ) (t : Target) (ts : List Target) (a : Expr) → suc (targets ts + slots a) ≤ max-slots → t .name < names → Fits-targets names ts → Fits names 1 0 a → q ≡ 0 → t .place ≡ 2 → Placed-targets 5 ts → Placed (5 + size-targets ts) a
+      → drop 0 s ≡ 0x31 ∷ suc (targets ts) ∷ (spell-target t ++ (spell-targets ts ++ (spell a ++ []))) → formulaAt names s start ≡ ok (state (2 + (3 + (size-targets ts + size a))) (suc (targets ts + slots a)) 0) (becomes-in q t ts a)
+  unfolding becomesBy andThen moved
+  becomes-in-here q t ts a m f g b y z w v h =
+      let e : drop 2 s ≡ spell-target t ++ (spell-targets ts ++ (spell a ++ [])) = after-two s 0 _ _ _ h in
+      let i : drop 5 s ≡ spell-targets ts ++ (spell a ++ []) = past-target t 2 _ e in
+      becomes-here 0x31 (suc (targets ts)) _ (omega arith) (omega arith) h
+      ∙ (rw (
+        target-here t 2 0 0 _ f z (omega arith) e,
+        targets-here ts 5 1 0 (spell a ++ []) g w (omega arith) i,
+        expr-here a max-depth 1 (5 + size-targets ts) (1 + targets ts) 0 false [] refl b v (λ z. absurd (false-true z)) (omega arith) (past-targets ts 5 (spell a ++ []) i),
+        y,
+      )
+      (state-is _ _ _ _ _ _ _ (let u : 5 + size-targets ts + size a ≡ 2 + (3 + (size-targets ts + size a)) = omega arith in u) (let u : 1 + targets ts + slots a ≡ suc (targets ts + slots a) = omega arith in u) refl))
+
+  becomes-such-here : (q : ℕ) (ts : List Target) (ds : List Decl) (a : Pred) → targets ts + (decls ds + slots-pred a) ≤ max-slots → 1 ≤ targets ts → targets ts ≡ decls ds → decls ds ≤ max-opened → Fits-targets names ts → Fits-decls names 1 ds → Fits-pred names 1 (decls ds) a
+      → q ≡ 0 → Placed-targets 2 ts → Placed-decls (2 + size-targets ts) ds → Placed-pred (2 + size-targets ts + size-decls ds) a
+      → drop 0 s ≡ 0x32 ∷ targets ts ∷ (spell-targets ts ++ (spell-decls ds ++ (spell-pred a ++ []))) → formulaAt names s start ≡ ok (state (2 + (size-targets ts + (size-decls ds + size-pred a))) (targets ts + (decls ds + slots-pred a)) (decls ds)) (becomes-such q ts ds a)
+  unfolding becomesBy andThen moved
+  becomes-such-here q ts ds a m i n o f g b y z w v h =
+      let e : drop 2 s ≡ spell-targets ts ++ (spell-decls ds ++ (spell-pred a ++ [])) = after-two s 0 _ _ _ h in
+      let j : drop (2 + size-targets ts) s ≡ spell-decls ds ++ (spell-pred a ++ []) = past-targets ts 2 _ e in
+      becomes-here 0x32 (targets ts) _ (omega arith) i h
+      ∙ by-count (targets ts) refl
+      ∙ (rw (
+        targets-here ts 2 0 0 _ f z (omega arith) e,
+        decls-all j,
+        pred-here a max-depth 1 (2 + size-targets ts + size-decls ds) (0 + targets ts + decls ds) (0 + decls ds) [] refl (let u : 0 + decls ds ≡ decls ds = omega arith in rw u b) v (omega arith) (past-decls ds (2 + size-targets ts) (spell-pred a ++ []) j),
+        y,
+      )
+      (state-is _ _ _ _ _ _ _ (let u : 2 + size-targets ts + size-decls ds + size-pred a ≡ 2 + (size-targets ts + (size-decls ds + size-pred a)) = omega arith in u) (let u : 0 + targets ts + decls ds + slots-pred a ≡ targets ts + (decls ds + slots-pred a) = omega arith in u) (let u : 0 + decls ds ≡ decls ds = omega arith in u)))
+    where
+      by-count : (c : ℕ) → targets ts ≡ c → becomesBy max-depth names s c (place 2) start 0x32 ≡ andThen (targetsAt names s c (state 2 0 0)) λ xs st₁. andThen (declsAt names s max-depth c st₁) λ zs st₂. andThen (predAt max-depth names s st₂) λ x st₃. ok st₃ (becomes-such 0 xs zs x)
+      by-count zero k = absurd (omega arith)
+      by-count (suc c) k = refl
+
+      decls-all : drop (2 + size-targets ts) s ≡ spell-decls ds ++ (spell-pred a ++ []) → declsAt names s max-depth (targets ts) (state (2 + size-targets ts) (0 + targets ts) 0) ≡ ok (state (2 + size-targets ts + size-decls ds) (0 + targets ts + decls ds) (0 + decls ds)) ds
+      decls-all j = ap (λ (c : ℕ). declsAt names s max-depth c (state (2 + size-targets ts) (0 + targets ts) 0)) n ∙ decl-row ds 1 max-depth (2 + size-targets ts) (0 + targets ts) 0 _ refl g w (omega arith) (omega arith) j
+
+  -- a formula at the start of its stream: o declarations are open at its end
+  pub formula-here : (a : Formula) → Fits-formula names a → Placed-formula 0 a → drop 0 s ≡ spell-formula a ++ [] → (o : ℕ) × (formulaAt names s start ≡ ok (state (size-formula a) (slots-of a) o) a)
+  unfolding Fits-formula Fits-root Placed-formula spell-formula size-formula slots-of rootBy andThen
+  formula-here (expression a) f y h =
+      let g = expr-first a in (
+        0,
+        root-here (g .0) (g .1) (h ∙ append-nil (spell a) ∙ g .2)
+            ∙ (rw (lt-ltb (g .0) 0x20 (g .3), expr-here a levels 0 0 0 0 false [] refl (f .1) y (λ z. absurd (false-true z)) (let z = f .0 in omega arith) h)
+            (state-is _ _ _ _ _ _ _ (let z : 0 + size a ≡ size a = omega arith in z) (let z : 0 + slots a ≡ slots a = omega arith in z) refl)),
+      )
+  formula-here (predicate a) f y h =
+      let g = pred-first a in (
+        0,
+        root-here (g .0) (g .1) (h ∙ append-nil (spell-pred a) ∙ g .2)
+            ∙ (rw (le-ltb (g .0) 0x20 (g .3), lt-ltb (g .0) 0x30 (g .4), pred-here a levels 0 0 0 0 [] refl (f .1) y (let z = f .0 in omega arith) h)
+            (state-is _ _ _ _ _ _ _ (let z : 0 + size-pred a ≡ size-pred a = omega arith in z) (let z : 0 + slots-pred a ≡ slots-pred a = omega arith in z) refl)),
+      )
+  formula-here (becomes q xs) f y h = (0, becomes-pairs-here q xs (f .0) (f .1 .0) (f .1 .1) (y .0) (y .1) h)
+  formula-here (becomes-in q t ts a) f y h =
+      let e : drop 0 s ≡ 0x31 ∷ suc (targets ts) ∷ (spell-target t ++ (spell-targets ts ++ (spell a ++ []))) = h ∙ ap (λ (w : List ℕ). 0x31 ∷ suc (targets ts) ∷ w) (append-assoc (spell-target t) (spell-targets ts ++ spell a) [] ∙ ap (λ (w : List ℕ). spell-target t ++ w) (append-assoc (spell-targets ts) (spell a) [])) in
+      (0, becomes-in-here q t ts a (f .0) (f .1 .0) (f .1 .1) (f .1 .2) (y .0) (y .1) (y .2) (y .3) e)
+  formula-here (becomes-such q ts ds a) f y h =
+      let e : drop 0 s ≡ 0x32 ∷ targets ts ∷ (spell-targets ts ++ (spell-decls ds ++ (spell-pred a ++ []))) = h ∙ ap (λ (w : List ℕ). 0x32 ∷ targets ts ∷ w) (append-assoc (spell-targets ts) (spell-decls ds ++ spell-pred a) [] ∙ ap (λ (w : List ℕ). spell-targets ts ++ w) (append-assoc (spell-decls ds) (spell-pred a) [])) in
+      (decls ds, becomes-such-here q ts ds a (f .0) (f .1 .0) (f .1 .1) (f .1 .2) (f .1 .3) (f .1 .4) (f .1 .5) (y .0) (y .1) (y .2) (y .3) e)
