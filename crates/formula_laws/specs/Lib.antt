@@ -3,3 +3,4 @@ pub mod Sizes
 pub mod Says
 pub mod Sound
 pub mod Complete
+pub mod Exact
