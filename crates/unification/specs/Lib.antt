@@ -15,4 +15,5 @@ pub mod Make
 pub mod Frame
 pub mod Put
 pub mod Histories
+pub mod ByRule
 mod Cases
