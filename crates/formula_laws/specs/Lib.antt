@@ -4,3 +4,4 @@ pub mod Says
 pub mod Sound
 pub mod Complete
 pub mod Exact
+pub mod ExactEnvironment

@@ -123,7 +123,7 @@ module _ (s : List ℕ) (bytes : (i : ℕ) → getD s i 0 < 256) where
       go b e x true k = h b e (leb-true 1 b k) x
       go b e x false k = n
 
-same-word : (Q : Word → Type 0) (w : Word) → Q (onWord W.Missing w W.Of) → Q w
+pub same-word : (Q : Word → Type 0) (w : Word) → Q (onWord W.Missing w W.Of) → Q w
 unfolding onWord
 same-word Q W.Missing h = h
 same-word Q (W.Of n e) h = h
