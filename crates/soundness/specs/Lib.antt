@@ -6,3 +6,4 @@ pub mod Calls
 pub mod Judge
 pub mod Price
 pub mod Soundness
+pub mod Examples
