@@ -7,21 +7,18 @@ use mathlib.Core.Logic.{_⊎_, inl, inr}
 use mathlib.Core.Bool.{Bool, true, false}
 use mathlib.Core.List.{List, [], _∷_, _++_}
 use native.Mathlib.Omega.{arith}
-use lib.ListN.{length, getD, drop}
-use lib.Dec.{leb, ltb, eqb}
-use Rattle.formula.specs.Tree.{Formula, predicate, relational, free, atomic, bound, expression, binary, literal}
-use Rattle.formula.specs.Environment.{Env, lookup}
-use Rattle.formula.specs.Heads.{byteOf, byteAt, onByte, onWord, wordAt, nameAt, opAt, countAt, fewAt, exprBody, exprHead, predBody, predHead}
-use Rattle.formula.specs.Reader.{andThen, onNext, many, moved, ownOf}
-use Rattle.formula.specs.Parse.{exprBy, predBy, exprIf, predIf, exprAt, predAt, rootBy, formulaAt, finish, whole, parsedBy, parseOf}
-use Rattle.formula.specs.EnvParse.{entriesFrom, capped, environmentOf}
+use Rattle.formula.specs.Tree.{Formula, predicate, relational, free, atomic, bound, expression, binary, literal, slots, slots-pred, slots-of}
+use Rattle.formula.specs.Environment.{Env, lookup, Distinct, spellEntries}
+use Rattle.formula.specs.Spell.{spell, spell-pred, spell-formula, size, Placed, Placed-pred, Placed-formula}
+use Rattle.formula_laws.specs.Fits.{Fits, Fits-pred, Fits-root, Fits-formula}
+use Rattle.formula_laws.specs.ExactEnvironment.{Fits-entries}
 use Rattle.typing.specs.Equations.{firstOf}
 use Rattle.typing.specs.Typings.{One, None, Several, index-excluded, excluded, excluded-of}
 use Rattle.inference.specs.Answer.{Problem, nameless, two, four, spellProblem, spellProblems, Answer, written}
 use Rattle.inference.specs.Infer.{inferOf}
 use Rattle.inference.specs.Cases.{auditors-table}
 use Rattle.soundness.specs.Listing.{Lists}
-use Rattle.soundness.specs.Calls.{Reads}
+use Rattle.soundness.specs.Calls.{Spells}
 use Rattle.soundness.specs.Soundness.{typed-exactly, clash-exactly, untyped-exactly, excluded-none}
 
 abbrev nothing-held : Env
@@ -31,23 +28,29 @@ nothing-held = lookup []
 abbrev in-integers : Formula
 in-integers = predicate (relational 0 6 (free 2 0) (atomic 5 0))
 
-in-integers-read : Reads (0x22 ∷ 0x06 ∷ 0x01 ∷ 0x00 ∷ 0x00 ∷ 0x04 ∷ 0x00 ∷ []) [] 1 [] in-integers
-unfolding byteOf byteAt onByte onWord wordAt nameAt opAt countAt fewAt exprBody exprHead predBody predHead andThen onNext many moved ownOf exprBy predBy exprIf predIf exprAt predAt rootBy formulaAt finish whole parsedBy parseOf entriesFrom environmentOf capped
-in-integers-read = record { environment-read = refl; formula-read = refl }
+in-integers-spelled : Spells (0x22 ∷ 0x06 ∷ 0x01 ∷ 0x00 ∷ 0x00 ∷ 0x04 ∷ 0x00 ∷ []) [] 1 [] in-integers
+unfolding spell-formula spell spell-pred Placed-formula Placed Placed-pred size Fits-formula Fits-root Fits Fits-pred slots-of slots slots-pred spellEntries Distinct Fits-entries
+in-integers-spelled = record {
+  environment-spelled = record { short = omega arith; bytes = refl; distinct = tt; fits = tt };
+  formula-spelled = record { short = omega arith; bytes = refl; placed = (refl, refl, refl); fits = (omega arith, (omega arith, omega arith, (omega arith, omega arith), (omega arith, omega arith))) };
+}
 
 pub in-integers-one : One nothing-held in-integers
 unfolding written
 in-integers-one =
     let e = ap (λ (a : Answer). a .number) (auditors-table .0) in
-    typed-exactly (0x22 ∷ 0x06 ∷ 0x01 ∷ 0x00 ∷ 0x00 ∷ 0x04 ∷ 0x00 ∷ []) [] 1 2048 1000 1000 10240 [] in-integers in-integers-read (omega arith) .0 e
+    typed-exactly (0x22 ∷ 0x06 ∷ 0x01 ∷ 0x00 ∷ 0x00 ∷ 0x04 ∷ 0x00 ∷ []) [] 1 2048 1000 1000 10240 [] in-integers in-integers-spelled (omega arith) .0 e
 
 -- ---- case 4, ∅ = ∅: two problems 2, so there are several
 abbrev empty-sets : Formula
 empty-sets = predicate (relational 0 0 (atomic 2 8) (atomic 4 8))
 
-empty-sets-read : Reads (0x22 ∷ 0x00 ∷ 0x04 ∷ 0x08 ∷ 0x04 ∷ 0x08 ∷ []) [] 1 [] empty-sets
-unfolding byteOf byteAt onByte onWord wordAt nameAt opAt countAt fewAt exprBody exprHead predBody predHead andThen onNext many moved ownOf exprBy predBy exprIf predIf exprAt predAt rootBy formulaAt finish whole parsedBy parseOf entriesFrom environmentOf capped
-empty-sets-read = record { environment-read = refl; formula-read = refl }
+empty-sets-spelled : Spells (0x22 ∷ 0x00 ∷ 0x04 ∷ 0x08 ∷ 0x04 ∷ 0x08 ∷ []) [] 1 [] empty-sets
+unfolding spell-formula spell spell-pred Placed-formula Placed Placed-pred size Fits-formula Fits-root Fits Fits-pred slots-of slots slots-pred spellEntries Distinct Fits-entries
+empty-sets-spelled = record {
+  environment-spelled = record { short = omega arith; bytes = refl; distinct = tt; fits = tt };
+  formula-spelled = record { short = omega arith; bytes = refl; placed = (refl, refl, refl); fits = (omega arith, (omega arith, omega arith, (omega arith, omega arith), (omega arith, omega arith))) };
+}
 
 abbrev both-open : List Problem
 both-open = record { kind = 2; place = 2; name = nameless } ∷ record { kind = 2; place = 4; name = nameless } ∷ []
@@ -59,16 +62,19 @@ empty-sets-listed = let e = auditors-table .1 .1 .1 .1 .1 .0 in record { problem
 pub empty-sets-several : Several nothing-held empty-sets
 empty-sets-several =
     let e = empty-sets-listed .problems in
-    untyped-exactly (0x22 ∷ 0x00 ∷ 0x04 ∷ 0x08 ∷ 0x04 ∷ 0x08 ∷ []) [] 1 2048 1000 1000 10240 [] empty-sets empty-sets-read (omega arith) .0
+    untyped-exactly (0x22 ∷ 0x00 ∷ 0x04 ∷ 0x08 ∷ 0x04 ∷ 0x08 ∷ []) [] 1 2048 1000 1000 10240 [] empty-sets empty-sets-spelled (omega arith) .0
     (both-open, empty-sets-listed, (inl refl, (inl refl, tt)))
 
 -- ---- case 6, x ↦ TRUE = 0 ↦ 0: a problem 0, so there is none
 abbrev pairs-apart : Formula
 pairs-apart = predicate (relational 0 0 (binary 2 0 (free 4 0) (atomic 7 4)) (binary 9 0 (literal 11) (literal 12)))
 
-pairs-apart-read : Reads (0x22 ∷ 0x00 ∷ 0x07 ∷ 0x00 ∷ 0x01 ∷ 0x00 ∷ 0x00 ∷ 0x04 ∷ 0x04 ∷ 0x07 ∷ 0x00 ∷ 0x03 ∷ 0x03 ∷ []) [] 1 [] pairs-apart
-unfolding byteOf byteAt onByte onWord wordAt nameAt opAt countAt fewAt exprBody exprHead predBody predHead andThen onNext many moved ownOf exprBy predBy exprIf predIf exprAt predAt rootBy formulaAt finish whole parsedBy parseOf entriesFrom environmentOf capped
-pairs-apart-read = record { environment-read = refl; formula-read = refl }
+pairs-apart-spelled : Spells (0x22 ∷ 0x00 ∷ 0x07 ∷ 0x00 ∷ 0x01 ∷ 0x00 ∷ 0x00 ∷ 0x04 ∷ 0x04 ∷ 0x07 ∷ 0x00 ∷ 0x03 ∷ 0x03 ∷ []) [] 1 [] pairs-apart
+unfolding spell-formula spell spell-pred Placed-formula Placed Placed-pred size Fits-formula Fits-root Fits Fits-pred slots-of slots slots-pred spellEntries Distinct Fits-entries
+pairs-apart-spelled = record {
+  environment-spelled = record { short = omega arith; bytes = refl; distinct = tt; fits = tt };
+  formula-spelled = record { short = omega arith; bytes = refl; placed = (refl, (refl, refl, refl), (refl, refl, refl)); fits = (omega arith, (omega arith, omega arith, (omega arith, omega arith, (omega arith, omega arith), (omega arith, omega arith)), (omega arith, omega arith, omega arith, omega arith))) };
+}
 
 abbrev one-clash : List Problem
 one-clash = record { kind = 0; place = 0; name = nameless } ∷ []
@@ -81,19 +87,22 @@ pub pairs-apart-none : None nothing-held pairs-apart
 unfolding excluded-of excluded
 pairs-apart-none =
     let e = pairs-apart-listed .problems in
-    clash-exactly (0x22 ∷ 0x00 ∷ 0x07 ∷ 0x00 ∷ 0x01 ∷ 0x00 ∷ 0x00 ∷ 0x04 ∷ 0x04 ∷ 0x07 ∷ 0x00 ∷ 0x03 ∷ 0x03 ∷ []) [] 1 2048 1000 1000 10240 [] pairs-apart pairs-apart-read (omega arith) refl .0
+    clash-exactly (0x22 ∷ 0x00 ∷ 0x07 ∷ 0x00 ∷ 0x01 ∷ 0x00 ∷ 0x00 ∷ 0x04 ∷ 0x04 ∷ 0x07 ∷ 0x00 ∷ 0x03 ∷ 0x03 ∷ []) [] 1 2048 1000 1000 10240 [] pairs-apart pairs-apart-spelled (omega arith) refl .0
     (one-clash, pairs-apart-listed, inl (omega arith))
 
 -- ---- case 8, an index with no declaration: excluded, so there is none
 abbrev dangling : Formula
 dangling = expression (bound 0 0)
 
-dangling-read : Reads (0x02 ∷ 0x00 ∷ 0x00 ∷ []) [] 1 [] dangling
-unfolding byteOf byteAt onByte onWord wordAt nameAt opAt countAt fewAt exprBody exprHead predBody predHead andThen onNext many moved ownOf exprBy predBy exprIf predIf exprAt predAt rootBy formulaAt finish whole parsedBy parseOf entriesFrom environmentOf capped
-dangling-read = record { environment-read = refl; formula-read = refl }
+dangling-spelled : Spells (0x02 ∷ 0x00 ∷ 0x00 ∷ []) [] 1 [] dangling
+unfolding spell-formula spell spell-pred Placed-formula Placed Placed-pred size Fits-formula Fits-root Fits Fits-pred slots-of slots slots-pred spellEntries Distinct Fits-entries
+dangling-spelled = record {
+  environment-spelled = record { short = omega arith; bytes = refl; distinct = tt; fits = tt };
+  formula-spelled = record { short = omega arith; bytes = refl; placed = refl; fits = (omega arith, omega arith) };
+}
 
 pub dangling-none : None nothing-held dangling
 unfolding written excluded-of excluded index-excluded firstOf
 dangling-none =
     let e = ap (λ (a : Answer). a .number) (auditors-table .1 .1 .1 .1 .1 .1 .1 .1 .1 .1 .0) in
-    excluded-none (0x02 ∷ 0x00 ∷ 0x00 ∷ []) [] 1 2048 1000 1000 10240 [] dangling dangling-read (omega arith) (4, 0) (inl refl)
+    excluded-none (0x02 ∷ 0x00 ∷ 0x00 ∷ []) [] 1 2048 1000 1000 10240 [] dangling dangling-spelled (omega arith) (4, 0) (inl refl)

@@ -5,7 +5,8 @@
 -- is the definition that the code's contract names (crates/inference/specs/Infer.antt); `outputAfter` there says how the bytes stand
 -- in the output. Each statement below is the type written after its name; what follows the second mention of the name is its proof,
 -- which the checker has checked and a reader may skip. The words in the statements, each one step away:
---   `Reads`, the bytes are these entries and this tree (Calls.antt);
+--   `Spells`, the bytes spell these entries and this tree, inside the limits (Calls.antt; bytes of a tree: `spell-formula` in
+--     crates/formula/specs/Spell.antt; places: `Placed-formula` there; limits: crates/formula_laws/specs/Fits.antt);
 --   `Typing`, `One`, `None`, `Several`, the declarative rules and how many typings there are (crates/typing/specs/Rules.antt and
 --     Typings.antt): no unknowns, no order of work, no memory;
 --   `name-entries`, the names that the environment lacks, in order of first meeting, each with its type; `slot-entries`, the places of
@@ -14,7 +15,8 @@
 --     (Listing.antt);
 --   `excluded-of f`, the dangling indices, applications and ascriptions to 4F of f, as problem and place (Typings.antt).
 -- The only side conditions are those of the demand: the bytes are well formed, the call is not refused (number at most 1), and, where a
--- statement says so, the formula excludes nothing. Formula, environment, count of names, capacity, budget and lengths are any.
+-- statement says so, the formula excludes nothing. Formula, environment, count of names, capacity, budget and lengths are any; and
+-- every call that is not refused has well formed bytes (`judged-spells`).
 --
 -- Assumed: that the checker is right, and that a program behaves as the language's abstract machine says. Not covered: the machine
 -- stack, and any code in Rust, the host's included.
@@ -38,11 +40,16 @@ use Rattle.inference.specs.Budget.{price, outcome, fill}
 use Rattle.soundness.specs.Listing.{Lists, AllOf, SomeOf, Clash, Untyped, Among, among-in, problemOf}
 use Rattle.soundness.specs.Excluded.{excluded-kinds}
 use Rattle.soundness.specs.Verdict.{Verdict}
-use Rattle.soundness.specs.Calls.{Reads, answer-is, outcome-verdict}
+use Rattle.soundness.specs.Calls.{Spells, spelled-read, Bytes, answered-spells, answer-is, outcome-verdict}
 use Rattle.soundness.specs.Judge.{number-one, bytes-typing, listing-clash, listing-untyped, listing-excluded}
 use Rattle.soundness.specs.Price.{more-same, fewer-seven, least-steps, fits-answered, fits-seven, fits-six, full-seven, full-six, steps-price}
 
-module _ (formula environment : List ℕ) (names capacity budget room work : ℕ) (es : Entries) (f : Formula) (reads : Reads formula environment names es f) (judged : inferOf formula environment names capacity budget room work .number ≤ 1) where
+-- what is answered 0 or 1 spells some environment and some formula
+pub judged-spells : (formula environment : List ℕ) → Bytes formula → Bytes environment → (names capacity budget room work : ℕ) → inferOf formula environment names capacity budget room work .number ≤ 1
+    → (es : Entries) × (f : Formula) × Spells formula environment names es f
+judged-spells = answered-spells
+
+module _ (formula environment : List ℕ) (names capacity budget room work : ℕ) (es : Entries) (f : Formula) (spelled : Spells formula environment names es f) (judged : inferOf formula environment names capacity budget room work .number ≤ 1) where
   -- the answer, and the environment that the bytes spell
   abbrev A : Answer
   A = inferOf formula environment names capacity budget room work
@@ -52,10 +59,10 @@ module _ (formula environment : List ℕ) (names capacity budget room work : ℕ
 
   -- (for the proofs: the answer is the outcome's, and the outcome's verdict is known)
   as-outcome : (P : Answer → Type 0) → P (answer (price Γ f) (outcome Γ f)) → P A
-  as-outcome P h = subst P (sym (answer-is formula environment names capacity budget room work es f reads judged)) h
+  as-outcome P h = subst P (sym (answer-is formula environment names capacity budget room work es f (spelled-read spelled) judged)) h
 
   verdict : Verdict Γ f (outcome Γ f)
-  verdict = outcome-verdict formula environment names capacity budget room work es f reads judged
+  verdict = outcome-verdict formula environment names capacity budget room work es f (spelled-read spelled) judged
 
   -- ---- E3: number 0 exactly if there is one and only one typing
   pub typed-exactly : (A .number ≡ 0) ↔ One Γ f
@@ -109,25 +116,25 @@ module _ (formula environment : List ℕ) (names capacity budget room work : ℕ
 
 -- ---- E7: 7 or 6, exactly which. The bytes are well formed and the sizes of row 2 hold. `size` is how many nodes the walk of the
 -- formula makes (counted record by record in crates/walk/specs/Nodes.antt); `price` and `fill` are units, and do not depend on the budget
-module _ (formula environment : List ℕ) (names capacity budget room work : ℕ) (es : Entries) (f : Formula) (reads : Reads formula environment names es f) (sizes : Sized (length formula) (length environment) names capacity work) where
+module _ (formula environment : List ℕ) (names capacity budget room work : ℕ) (es : Entries) (f : Formula) (spelled : Spells formula environment names es f) (sizes : Sized (length formula) (length environment) names capacity work) where
   -- the nodes fit: 7 exactly below the price, never 6; and the steps of an answer are the price
   pub seven-fitting : size (lookup es) f ≤ capacity → (inferOf formula environment names capacity budget room work .number ≡ 7) ↔ (budget < price (lookup es) f)
-  seven-fitting l = fits-seven formula environment names capacity budget room work es f reads sizes l
+  seven-fitting l = fits-seven formula environment names capacity budget room work es f (spelled-read spelled) sizes l
 
   pub six-fitting : size (lookup es) f ≤ capacity → inferOf formula environment names capacity budget room work .number ≡ 6 → ⊥
-  six-fitting l e = fits-six formula environment names capacity budget room work es f reads sizes l e
+  six-fitting l e = fits-six formula environment names capacity budget room work es f (spelled-read spelled) sizes l e
 
   pub steps-fitting : inferOf formula environment names capacity budget room work .number ≤ 1 → inferOf formula environment names capacity budget room work .steps ≡ price (lookup es) f
-  steps-fitting j = steps-price formula environment names capacity budget room work es f reads j
+  steps-fitting j = steps-price formula environment names capacity budget room work es f (spelled-read spelled) j
 
   -- from the price on the call is answered, unless the answer is longer than the output
   pub answered-fitting : size (lookup es) f ≤ capacity → price (lookup es) f ≤ budget
       → (inferOf formula environment names capacity budget room work .number < 2) ⊎ (inferOf formula environment names capacity budget room work .number ≡ 8)
-  answered-fitting l b = fits-answered formula environment names capacity budget room work es f reads sizes l b
+  answered-fitting l b = fits-answered formula environment names capacity budget room work es f (spelled-read spelled) sizes l b
 
   -- they do not fit: 7 exactly until the capacity is used up, 6 from then on
   pub seven-full : (l : capacity < size (lookup es) f) → (inferOf formula environment names capacity budget room work .number ≡ 7) ↔ (budget < fill (lookup es) f capacity l)
-  seven-full l = full-seven formula environment names capacity budget room work es f reads sizes l
+  seven-full l = full-seven formula environment names capacity budget room work es f (spelled-read spelled) sizes l
 
   pub six-full : (l : capacity < size (lookup es) f) → (inferOf formula environment names capacity budget room work .number ≡ 6) ↔ (fill (lookup es) f capacity l ≤ budget)
-  six-full l = full-six formula environment names capacity budget room work es f reads sizes l
+  six-full l = full-six formula environment names capacity budget room work es f (spelled-read spelled) sizes l
