@@ -1,21 +1,18 @@
 -- Calls whose bytes are well formed. After this file a reader knows what `Spells` means, and that the answer of such a call, where it
 -- is not refused, is the outcome of the very entries and tree that the bytes spell, at the price of that outcome.
-use Prim.Native.Nat.{ℕ, _+_, _*_, _≤_, _<_}
-use mathlib.Core.Path.{_≡_, refl, sym, _∙_, ap, ap₂, subst}
+use Prim.Native.Nat.{ℕ, _≤_, _<_}
+use mathlib.Core.Path.{_≡_, sym, _∙_, ap₂}
 use mathlib.Core.List.{List}
-use native.Mathlib.Omega.{arith}
 use lib.ListN.{length, getD}
 use Rattle.formula.specs.Tree.{Formula}
-use Rattle.formula.specs.Environment.{Env, Entries, lookup}
+use Rattle.formula.specs.Environment.{Entries, lookup}
 use Rattle.formula.specs.Parse.{parsed, parseOf}
 use Rattle.formula.specs.EnvParse.{environmentOf}
 use Rattle.formula_laws.specs.Exact.{Spelled, spelled-is-parsed, parsed-is-spelled}
 use Rattle.formula_laws.specs.ExactEnvironment.{SpelledEntries, spelled-entries-parsed, parsed-entries-spelled}
-use Rattle.inference.specs.Answer.{Answer}
-use Rattle.inference.specs.Finish.{Outcome}
 use Rattle.inference.specs.Infer.{answer, inferOf}
 use Rattle.inference.specs.Numbers.{Sized, Walks}
-use Rattle.inference.specs.Budget.{price, outcome, outcome-holds, Given, given}
+use Rattle.inference.specs.Budget.{price, outcome, outcome-holds, given}
 use Rattle.soundness.specs.Verdict.{Verdict, verdict}
 
 -- the environment's bytes spell the entries es, the formula's the tree f, inside the limits

@@ -1,11 +1,9 @@
 -- The theorems at work: four of the auditor's cases, from the answer's number and bytes to what they say of the typings.
 -- After this file a reader has seen that the theorems' conditions can be met, and how each of them is used. One name, an empty
 -- environment, capacity 2,048, budget 1,000, an output of 1,000 bytes.
-use Prim.Native.Nat.{ℕ, _+_, _*_, _/_, _%_, _≤_, _<_}
-use mathlib.Core.Path.{_≡_, refl, sym, _∙_, ap, subst}
-use mathlib.Core.Logic.{_⊎_, inl, inr}
-use mathlib.Core.Bool.{Bool, true, false}
-use mathlib.Core.List.{List, [], _∷_, _++_}
+use mathlib.Core.Path.{refl, ap}
+use mathlib.Core.Logic.{inl}
+use mathlib.Core.List.{List, [], _∷_}
 use native.Mathlib.Omega.{arith}
 use Rattle.formula.specs.Tree.{Formula, predicate, relational, free, atomic, bound, expression, binary, literal, slots, slots-pred, slots-of}
 use Rattle.formula.specs.Environment.{Env, lookup, Distinct, spellEntries}

@@ -1,13 +1,12 @@
 -- What a formula excludes is told as problem 4, 5 or 0, and as nothing else: 4 for an index with no declaration, 5 for an
 -- application, 0 for an ascription to 4F.
-use Prim.Native.Nat.{ℕ, zero, suc, _+_}
-use mathlib.Core.Path.{_≡_, refl, sym, _∙_, ap, subst}
+use Prim.Native.Nat.{ℕ, _+_}
+use mathlib.Core.Path.{_≡_, refl, sym, subst}
 use mathlib.Core.Logic.{_⊎_, inl, inr}
 use mathlib.Core.Bool.{Bool, true, false}
 use mathlib.Core.List.{List, [], _∷_, _++_}
-use native.Mathlib.Omega.{arith}
 use lib.Dec.{ltb}
-use Rattle.formula.specs.Tree.{Spelling, spells, no-type, Decl, Expr, free, bound, literal, atomic, extension, truth, binary, associative, unary, quantified, ascribed, explicit, Exprs, none, more, Pred, constant, variable, relational, connective, junction, negation, quantification, simple, multiple, application, Preds, end, also, Target, Formula, expression, predicate, becomes, becomes-in, becomes-such, decls}
+use Rattle.formula.specs.Tree.{Spelling, spells, no-type, Expr, free, bound, literal, atomic, extension, truth, binary, associative, unary, quantified, ascribed, explicit, Exprs, none, more, Pred, constant, variable, relational, connective, junction, negation, quantification, simple, multiple, application, Preds, end, also, Target, Formula, expression, predicate, becomes, becomes-in, becomes-such, decls}
 use Rattle.typing.specs.Equations.{firstOf}
 use Rattle.typing.specs.Typings.{index-excluded, spelling-excluded, excluded, excluded-all, excluded-pred, excluded-preds, pair-excluded, excluded-of}
 use Rattle.unification.specs.Ops.{In}

@@ -1,14 +1,14 @@
 -- What a row of findings amounts to: where no problem was found every question has its type, and where one was found its question
 -- has none. After this file a reader knows what the types and the problems of the finish say of its questions.
-use Prim.Native.Nat.{ℕ, zero, suc}
-use mathlib.Core.Path.{_≡_, refl, sym, _∙_, ap, ap₂, subst}
+use Prim.Native.Nat.{ℕ}
+use mathlib.Core.Path.{_≡_, refl, sym, _∙_, ap, ap₂}
 use mathlib.Core.Logic.{inl, inr}
 use mathlib.Core.List.{List, [], _∷_, _++_}
 use native.Mathlib.Omega.{arith}
 use Rattle.types.specs.Ty.{Ty}
 use Rattle.formula.specs.Environment.{Entry, lacks, holds, Env}
 use Rattle.formula.specs.Tree.{Formula}
-use Rattle.typing.specs.Typings.{lacking, named-entries, name-entries}
+use Rattle.typing.specs.Typings.{named-entries, name-entries}
 use Rattle.unification.specs.Good.{Assignment}
 use Rattle.walk.specs.Writer.{Met, Row, at, find}
 use Rattle.walk.specs.Walk.{walked}

@@ -1,20 +1,20 @@
 -- From the outcome to the answer: each thing that an answer's number and bytes can say, and what it says of the typings.
-use Prim.Native.Nat.{ℕ, _<_}
-use mathlib.Core.Path.{_≡_, refl, sym, _∙_, ap, ap₂, subst}
+use Prim.Native.Nat.{ℕ}
+use mathlib.Core.Path.{_≡_, refl, sym, ap₂}
 use mathlib.Core.Logic.{_⊎_, inl, inr, _↔_}
-use mathlib.Core.List.{List, [], _∷_, _++_}
+use mathlib.Core.List.{List, [], _++_}
 use native.Mathlib.Omega.{arith}
 use Rattle.types.specs.Ty.{Ty}
 use Rattle.formula.specs.Environment.{Env, spellEntries}
 use Rattle.formula.specs.Tree.{Formula}
 use Rattle.typing.specs.Rules.{Typing}
-use Rattle.typing.specs.Typings.{Some, AtMostOne, One, None, Several, name-entries, slot-entries, excluded-of}
+use Rattle.typing.specs.Typings.{One, None, Several, name-entries, slot-entries, excluded-of}
 use Rattle.walk.specs.Readings.{several-not-one}
 use Rattle.unification.specs.Ops.{In}
-use Rattle.inference.specs.Answer.{Problem, spellProblems, spellSlots, Answer, written}
+use Rattle.inference.specs.Answer.{Problem, spellProblems, spellSlots, written}
 use Rattle.inference.specs.Finish.{Outcome, typed, failed}
 use Rattle.inference.specs.Infer.{answer}
-use Rattle.soundness.specs.Listing.{Lists, AllOf, SomeOf, Clash, Untyped, Unfit, problemOf, all-some, same-all, same-some}
+use Rattle.soundness.specs.Listing.{Lists, AllOf, SomeOf, Clash, Untyped, problemOf, all-some, same-all}
 use Rattle.soundness.specs.Verdict.{OfWalk, Verdict, one, several, none}
 
 module _ (Γ : Env) (f : Formula) (steps : ℕ) where

@@ -1,7 +1,7 @@
 -- What an answer lists. After this file a reader knows what it means that an answer lists problems, that a problem is among them,
 -- and that the bytes leave no choice: two lists with the same bytes have the same problem numbers.
-use Prim.Native.Nat.{ℕ, zero, suc, _<_}
-use mathlib.Core.Path.{_≡_, refl, sym, _∙_, ap, ap₂, subst}
+use Prim.Native.Nat.{ℕ, _<_}
+use mathlib.Core.Path.{_≡_, sym, ap, subst}
 use mathlib.Core.Logic.{_⊎_, inl, inr}
 use mathlib.Core.List.{List, [], _∷_, _++_}
 use native.Mathlib.Omega.{arith}

@@ -2,7 +2,7 @@
 -- The numbers come from `inference`: `size` is how many nodes the walk of a formula makes, `price` the units that its outcome takes,
 -- `fill` the units after which a capacity that is too small is used up.
 use Prim.Native.Nat.{ℕ, _+_, _*_, _-_, _≤_, _<_}
-use mathlib.Core.Path.{_≡_, refl, sym, _∙_, ap, ap₂, subst}
+use mathlib.Core.Path.{_≡_, refl, sym, _∙_, ap, subst}
 use mathlib.Core.Logic.{_⊎_, inl, inr, _↔_}
 use mathlib.Core.Bool.{Bool, true, false}
 use mathlib.Core.List.{List}

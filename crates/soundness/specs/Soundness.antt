@@ -21,16 +21,16 @@
 -- Assumed: that the checker is right, and that a program behaves as the language's abstract machine says. Not covered: the machine
 -- stack, and any code in Rust, the host's included.
 use Prim.Native.Nat.{ℕ, _+_, _*_, _-_, _≤_, _<_}
-use mathlib.Core.Path.{_≡_, refl, sym, _∙_, ap, ap₂, subst}
-use mathlib.Core.Logic.{_⊎_, inl, inr, _↔_}
-use mathlib.Core.List.{List, [], _∷_, _++_}
+use mathlib.Core.Path.{_≡_, sym, _∙_, ap, subst}
+use mathlib.Core.Logic.{_⊎_, _↔_}
+use mathlib.Core.List.{List, [], _++_}
 use native.Mathlib.Omega.{arith}
 use lib.ListN.{length}
 use Rattle.types.specs.Ty.{Ty}
 use Rattle.formula.specs.Tree.{Formula}
 use Rattle.formula.specs.Environment.{Env, Entries, lookup, spellEntries}
 use Rattle.typing.specs.Rules.{Typing}
-use Rattle.typing.specs.Typings.{Some, One, None, Several, name-entries, slot-entries, excluded-of}
+use Rattle.typing.specs.Typings.{One, None, Several, name-entries, slot-entries, excluded-of}
 use Rattle.walk.specs.Excluded.{typed-allowed}
 use Rattle.inference.specs.Answer.{Problem, spellSlots, Answer, refused}
 use Rattle.inference.specs.Infer.{answer, inferOf, outputAfter, zeros}

@@ -1,37 +1,36 @@
 -- What the outcome of a formula says of its typings: one, several or none.
 -- After this file a reader may believe that the finish, over the arena that the walk leaves, tells the three apart, and that the
 -- types it hands out are the typing's, in the order in which a typing is told.
-use Prim.Native.Nat.{ℕ, zero, suc, _+_, _*_, _≤_, _<_}
-use mathlib.Core.Path.{_≡_, refl, sym, _∙_, ap, ap₂, subst}
+use Prim.Native.Nat.{ℕ, _+_, _*_, _<_}
+use mathlib.Core.Path.{_≡_, refl, sym, _∙_, ap, subst}
 use mathlib.Core.Logic.{_⊎_, inl, inr}
 use mathlib.Core.Bool.{Bool, true, false}
 use mathlib.Core.List.{List, [], _∷_, _++_}
 use native.Mathlib.Omega.{arith}
 use Rattle.meter.specs.Meter.{done, Exact}
 use Rattle.types.specs.Ty.{Ty, base, bool}
-use Rattle.formula.specs.Environment.{lacks, Env}
+use Rattle.formula.specs.Environment.{Env}
 use Rattle.formula.specs.Tree.{Formula}
 use Rattle.typing.specs.Rules.{Typing}
-use Rattle.typing.specs.Typings.{Some, AtMostOne, One, None, Several, name-entries, slot-entries, excluded-of}
-use Rattle.unification.specs.Arena.{U, nodeAt, solved}
+use Rattle.typing.specs.Typings.{One, None, Several, name-entries, slot-entries, excluded-of}
+use Rattle.unification.specs.Arena.{U, solved}
 use Rattle.unification.specs.Trees.{ground}
 use Rattle.unification.specs.Good.{Assignment}
 use Rattle.unification.specs.Readers.{solved-exact}
 use Rattle.unification.specs.Ops.{Bench, Ran, Admitted, Whence, before, listing, failing, In, listed}
-use Rattle.walk.specs.Writer.{Row, at, find}
 use Rattle.walk.specs.Walk.{walked}
 use Rattle.walk.specs.Safe.{RowIn, SlotsIn, safe-formula}
 use Rattle.walk.specs.Whole.{none-found}
 use Rattle.walk.specs.Excluded.{own-listed}
 use Rattle.walk.specs.Readings.{SlotAt, Asked, slot-asked, name-asked, slots-told}
-use Rattle.walk.specs.Verdict.{start, typings-exist, excluded-listed, clash-kinds, Fixed, SlotsFixed, NamesFixed, AllFixed, one-typing, typing-spelt, reading, reading-admitted, solved-fixed, unsolved-several}
+use Rattle.walk.specs.Verdict.{start, typings-exist, excluded-listed, clash-kinds, SlotsFixed, NamesFixed, AllFixed, one-typing, typing-spelt, reading, reading-admitted, solved-fixed, unsolved-several}
 use Rattle.inference.specs.Answer.{Problem}
-use Rattle.inference.specs.Finish.{Finding, found, unsolved, Question, Findings, names, slots, Outcome, typed, failed, settled, walkProblems}
+use Rattle.inference.specs.Finish.{found, unsolved, Findings, names, slots, Outcome, typed, failed, settled, walkProblems}
 use Rattle.inference.specs.Infer.{zeros}
 use Rattle.inference.specs.Rows.{Every, every-map, found-asked, asked-found}
-use Rattle.inference.specs.Conclude.{Judge, Told, Judged, SlotsTold, Finished, size, Concluded}
-use Rattle.soundness.specs.Listing.{AllOf, SomeOf, Clash, Untyped, Unfit, problemOf, all-map, some-map, walk-listed}
-use Rattle.soundness.specs.Findings.{told-problems, Untold, told-unsolved, told-types, all-found, types-found, slots-types, slots-asked, slots-untyped, names-untyped, names-types}
+use Rattle.inference.specs.Conclude.{Told, Judged, SlotsTold, Finished, size, Concluded}
+use Rattle.soundness.specs.Listing.{AllOf, SomeOf, Clash, Untyped, Unfit, problemOf, some-map, walk-listed}
+use Rattle.soundness.specs.Findings.{told-problems, told-unsolved, all-found, types-found, slots-types, slots-asked, slots-untyped, names-untyped, names-types}
 use Rattle.soundness.specs.Excluded.{excluded-kinds}
 
 -- a problem that only the walk lists
