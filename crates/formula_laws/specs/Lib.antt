@@ -5,3 +5,5 @@ pub mod Sound
 pub mod Complete
 pub mod Exact
 pub mod ExactEnvironment
+pub mod Numbers
+pub mod Cases
