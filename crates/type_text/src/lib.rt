@@ -1,6 +1,6 @@
 // Types as text: `write` turns a type record into its canonical text, `read` a text into its record. Both take a name table and a lent page.
 mod page;
-mod reader;
+pub mod reader;
 mod writer;
 
 use page::Room;

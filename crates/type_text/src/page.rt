@@ -10,7 +10,7 @@ pub enum Room {
     Over,
 }
 
-pub fn spend(room: Room, n: usize) -> Room
+pub(crate) fn spend(room: Room, n: usize) -> Room
     ensures { λ r. ⌜ r ≡ spendOf room n ⌝ }
 {
     match room {
@@ -26,7 +26,7 @@ pub fn spend(room: Room, n: usize) -> Room
 }
 
 // Puts the bytes of src into the page from an offset on.
-pub fn copy(page: &mut [u8], from: usize, src: &[u8]) -> usize
+pub(crate) fn copy(page: &mut [u8], from: usize, src: &[u8]) -> usize
     requires { ⌜ from + length (now src) ≤ length (now page) ⌝ }
     ensures { λ r. ⌜ Splice from (now (src .entry)) (now (page .entry)) (now (page .exit)) r ⌝ }
 {

@@ -286,7 +286,7 @@ fn lay_product_at(text: &[u8], table: &[u8], c: Cursor, page: &mut [u8], from: u
 }
 
 // Each × moves the record so far one place on. The type is at most 64 deep by now, so no byte moves more often than that.
-pub fn lay_product(text: &[u8], table: &[u8], c: Cursor, page: &mut [u8]) -> Wrote
+pub(crate) fn lay_product(text: &[u8], table: &[u8], c: Cursor, page: &mut [u8]) -> Wrote
     requires { ⌜ LayReady (productOf (c .left) (names (now table)) (now text) (c .at)) 0 (length (now page)) ⌝ }
     ensures { λ r. ⌜ Laid (productOf (c .left) (names (now (table .entry))) (now (text .entry)) (c .at)) 0 (now (page .entry)) (now (page .exit)) (r .end) (r .width) ⌝ }
 {

@@ -35,7 +35,7 @@ pub struct Wrote {
 }
 
 // How many bytes an atom's text has.
-pub fn atom_width(table: &[u8], a: Atom) -> usize
+fn atom_width(table: &[u8], a: Atom) -> usize
     ensures { λ r. ⌜ r ≡ length (textAtom (names (now (table .entry))) (atomIs a)) ⌝ }
 {
     match a {
@@ -59,7 +59,7 @@ fn signs(right: bool) -> usize
 }
 
 // count: how many names there are; left: the levels of records that remain; right: the type is a right operand, so that a product is bracketed.
-pub fn measure(
+pub(crate) fn measure(
     bytes: &[u8],
     table: &[u8],
     count: u32,
@@ -128,7 +128,7 @@ fn put_atom(table: &[u8], a: Atom, page: &mut [u8]) -> usize
 }
 
 // Lends the page's tail to a nested operand.
-pub fn put_at(
+pub(crate) fn put_at(
     bytes: &[u8],
     table: &[u8],
     count: u32,
