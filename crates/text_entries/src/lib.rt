@@ -17,11 +17,31 @@ pub fn tell(a: Answer) -> Told
     ensures { λ r. ⌜ r .length ≡ lengthOf a ⌝ }
 {
     match a {
-        Answer::Done(n) => Told { number: 0, place: 0, length: n as u64 },
-        Answer::Bad => Told { number: 2, place: 0, length: 0 },
-        Answer::Malformed(p) => Told { number: 4, place: p as u64, length: 0 },
-        Answer::Deep(p) => Told { number: 5, place: p as u64, length: 0 },
-        Answer::NoRoom => Told { number: 8, place: 0, length: 0 },
+        Answer::Done(n) => Told {
+            number: 0,
+            place: 0,
+            length: n as u64,
+        },
+        Answer::Bad => Told {
+            number: 2,
+            place: 0,
+            length: 0,
+        },
+        Answer::Malformed(p) => Told {
+            number: 4,
+            place: p as u64,
+            length: 0,
+        },
+        Answer::Deep(p) => Told {
+            number: 5,
+            place: p as u64,
+            length: 0,
+        },
+        Answer::NoRoom => Told {
+            number: 8,
+            place: 0,
+            length: 0,
+        },
     }
 }
 

@@ -1,26 +1,23 @@
+-- `typecheck_write_text` tells the answer of `type_text::write` by its number, place and length.
+use mathlib.Core.Path.{ap, _∙_}
+use Rattle.type_text.specs.Answer.{numberOf, placeOf, lengthOf}
 use borrow.Author.Needs.{needs}
 use Rattle.text_entries.proofs.typecheck_write_text.Statement.{statement}
 use Rattle.text_entries.proofs.typecheck_write_text.Tie as tie
-use Rattle.text_entries.proofs.typecheck_write_text.Reads as reads
-use Rattle.text_entries.proofs.typecheck_write_text.Lts as lts
 use Rattle.text_entries.proofs.tell.Reads as tell-reads
 use Rattle.type_text.proofs.write.Reads as write-reads
 
--- src/lib.rt:61:18
 write-requires : tie.Need-write-requires
 write-requires c κs = search needs
 
--- src/lib.rt:61:9
 tell-requires : tie.Need-tell-requires
 tell-requires c κs = search needs
 
--- src/lib.rt:47:1
 same-length : tie.Need-same-length
 same-length c = search needs
 
--- src/lib.rt:47:1
 returns : tie.Need-returns
-returns c = ?
+returns c = (c .tell .ensures .0 ∙ ap numberOf (c .before .before .before .write .ensures .0), (c .tell .ensures .1 .0 ∙ ap placeOf (c .before .before .before .write .ensures .0), (c .tell .ensures .1 .1 ∙ ap lengthOf (c .before .before .before .write .ensures .0), c .before .before .before .write .ensures .1)))
 
 pub typecheck-write-text-spec : {M : Type 1} → statement M
 typecheck-write-text-spec = tie.close (tie.spec write-requires tell-requires same-length returns)
