@@ -154,10 +154,11 @@ impl Side for Bought {
     }
 }
 
-/// The proved entries, inference in the caller's memory or in its own.
+/// The proved entries, inference in the caller's memory or in its own; or the text entries alone.
 pub enum Port {
     Lent,
     Own,
+    Text,
 }
 
 impl Port {
@@ -172,12 +173,13 @@ impl Side for Port {
         match self {
             Port::Lent => "port",
             Port::Own => "port in its own memory",
+            Port::Text => "port of text",
         }
     }
 
     fn knows(&self) -> Knows {
         match self {
-            Port::Lent => Knows::Everything,
+            Port::Lent | Port::Text => Knows::Everything,
             Port::Own => Knows::Answers,
         }
     }
@@ -187,6 +189,7 @@ impl Side for Port {
         Port::heard(match self {
             Port::Lent => port::infer_in(q.formula, q.environment, q.names, q.capacity, q.budget, output, work),
             Port::Own => port::infer(q.formula, q.environment, q.names, q.budget, output),
+            Port::Text => return Heard::Nothing,
         })
     }
 
@@ -209,6 +212,8 @@ pub fn others() -> Vec<Box<dyn Side>> {
     if port::PROVED {
         sides.push(Box::new(Port::Lent));
         sides.push(Box::new(Port::Own));
+    } else if port::PROVED_TEXT {
+        sides.push(Box::new(Port::Text));
     }
     sides
 }

@@ -5,6 +5,7 @@
 
 use crate::Answer;
 
+#[cfg(not(no_archive))]
 unsafe extern "C" {
     fn typecheck_infer(
         formula: *const u8,
@@ -36,7 +37,9 @@ unsafe extern "C" {
         length: *mut u64,
         steps: *mut u64,
     ) -> u32;
+}
 
+unsafe extern "C" {
     fn typecheck_read_text(
         text: *const u8,
         text_length: usize,
@@ -61,6 +64,7 @@ unsafe extern "C" {
     ) -> u32;
 }
 
+#[cfg(not(no_archive))]
 pub fn infer(formula: &[u8], environment: &[u8], names: u32, budget: u64, output: &mut [u8]) -> Answer {
     let (mut place, mut length, mut steps) = (0, 0, 0);
     // SAFETY: every pointer and length is that of a slice or a local that outlives the call; those written are borrowed mutably.
@@ -82,6 +86,7 @@ pub fn infer(formula: &[u8], environment: &[u8], names: u32, budget: u64, output
     Answer { number, place, length, steps }
 }
 
+#[cfg(not(no_archive))]
 pub fn infer_in(
     formula: &[u8],
     environment: &[u8],

@@ -1,25 +1,33 @@
 //! The checker's four exported entries, as safe Rust functions over byte slices.
 //!
 //! The entries are those of the proved archive, `libhost.a` (`rt staticlib host`). Where the archive was not there when this crate was
-//! built, the same functions are answered by `reference`, which is not proved: [`BACKEND`] says which it is, and [`PROVED`].
+//! built, the same functions are answered by `reference`, which is not proved: [`BACKEND`] says which it is, and [`PROVED`]. The text
+//! entries have an archive of their own beside it, `libtext_entries.a` (`rt staticlib text_entries`), for where the whole one is not there.
 //!
 //! Numbers, places and lengths are those of `docs/FORMAT.md`; nothing here judges them. The calls into the archive are all in one
 //! file, and it has the only `unsafe` of the Rust side.
 
 #![deny(unsafe_code)]
 
-#[cfg(not(no_archive))]
+#[cfg(any(not(no_archive), text_archive))]
 #[allow(unsafe_code)]
 mod archive;
 #[cfg(not(no_archive))]
 use archive as side;
+#[cfg(any(not(no_archive), text_archive))]
+use archive as text_side;
 #[cfg(no_archive)]
 mod stand_in;
 #[cfg(no_archive)]
 use stand_in as side;
+#[cfg(all(no_archive, not(text_archive)))]
+use stand_in as text_side;
 
 /// Whether the proved archive answers.
 pub const PROVED: bool = cfg!(not(no_archive));
+
+/// Whether proved entries answer for text: those of the archive, or where it is not there those of `libtext_entries.a`.
+pub const PROVED_TEXT: bool = cfg!(any(not(no_archive), text_archive));
 
 /// Who answers: `"proved archive"` or `"reference reading"`.
 pub const BACKEND: &str = if PROVED { "proved archive" } else { "reference reading" };
@@ -68,10 +76,10 @@ pub fn infer_in(
 
 /// Reads a type's text under a name table; its record goes to the page's start.
 pub fn read_text(text: &[u8], table: &[u8], page: &mut [u8]) -> Answer {
-    side::read_text(text, table, page)
+    text_side::read_text(text, table, page)
 }
 
 /// Writes a type record's text under a name table into the page, from a position on.
 pub fn write_text(record: &[u8], table: &[u8], page: &mut [u8], position: u64) -> Answer {
-    side::write_text(record, table, page, position)
+    text_side::write_text(record, table, page, position)
 }

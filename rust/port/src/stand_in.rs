@@ -23,10 +23,12 @@ pub fn infer_in(
     answer(reference::infer(formula, environment, names, capacity, budget, output, work))
 }
 
+#[cfg(not(text_archive))]
 pub fn read_text(text: &[u8], table: &[u8], page: &mut [u8]) -> Answer {
     answer(reference::text::read_text(text, table, page))
 }
 
+#[cfg(not(text_archive))]
 pub fn write_text(record: &[u8], table: &[u8], page: &mut [u8], position: u64) -> Answer {
     answer(reference::text::write_text(record, table, page, position))
 }
