@@ -16,4 +16,5 @@ pub mod Frame
 pub mod Put
 pub mod Histories
 pub mod ByRule
+pub mod Lift
 mod Cases
