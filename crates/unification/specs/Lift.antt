@@ -2,20 +2,21 @@
 --
 -- `liftOf` reads the bytes as `typeAt` of crate `types` reads them, and makes nodes as it goes; it is total on any bytes. `lift-law`: where the type t stands at a place,
 -- lifting there is running the operations of t (`liftOps`): the same nodes, and full just where they are.
-use Prim.Native.Nat.{ℕ, zero, suc, _+_, _*_, _≤_, _<_}
+use Prim.Native.Nat.{ℕ, zero, suc, _+_, _-_, _*_, _≤_, _<_}
 use mathlib.Core.Path.{_≡_, refl, sym, _∙_, ap, ap₂, subst}
-use mathlib.Core.Bool.{Bool, true, false}
+use mathlib.Core.Logic.{_≢_}
+use mathlib.Core.Bool.{Bool, true, false, _&&_}
 use mathlib.Core.List.{List, [], _∷_, _++_}
 use native.Mathlib.Omega.{arith}
 use native.Mathlib.Decide.{decLt}
 use lib.Dec.{ltb}
 use lib.ListN.{length, drop}
-use borrow.Author.Tests.{lt-ltb, le-ltb}
-use Rattle.meter.specs.Meter.{Out, spent, halt, done, Why, broken, full, M, ret, fail, _>>=_, bind-ret, bind-fail}
+use borrow.Author.Tests.{lt-ltb, le-ltb, ltb-true}
+use Rattle.meter.specs.Meter.{Out, spent, halt, done, Why, broken, full, M, ret, fail, on, _>>=_, bind-ret, bind-fail}
 use Rattle.types.specs.Ty.{Atom, bool, int, given, Ty, base, pow, prod}
 use Rattle.types.specs.Record as R
 use Rattle.types.specs.Record.{headOf, typeAt, typeBy, andThen, deepBy}
-use Rattle.unification.specs.Arena.{Node, leaf, power, pair, Words, U, choose}
+use Rattle.unification.specs.Arena.{Node, free, link, leaf, power, pair, bad, Words, U, choose}
 use Rattle.unification.specs.Trees.{weight}
 use Rattle.unification.specs.Good.{pushAt, length-push}
 use Rattle.unification.specs.Make.{makeOf, build, make-done, make-full, build-power, build-pair, build-small}
@@ -203,3 +204,128 @@ module _ (cap : ℕ) (small : cap < 0xFFFFFFFF) where
     pub lift-law : (left p : ℕ) (t : Ty) (e : ℕ) → typeAt left names s p ≡ R.got t e → (b : Bench) → length (b .words) ≡ 3 * cap → b .count ≤ cap
         → Lifts b (liftOps t (b .count)) (liftOf left names s (b .words) (b .count) p) (b .count + weight t) e (rootOf t (b .count))
     lift-law left p t e q b l w = law left p t e q b (record { sized = l; within = w })
+
+-- ---- one law for each way the code can go
+module _ (names : ℕ) (s : List ℕ) (ws : Words) (n p left : ℕ) where
+  pub lift-none : left ≡ 0 → liftOf left names s ws n p ≡ fail broken ws
+  unfolding liftOf
+  lift-none z = ap (λ (l : ℕ). liftOf l names s ws n p) z
+
+  pub lift-head : left ≢ 0 → (hd : R.Head) → headOf names p (drop p s) ≡ hd → liftOf left names s ws n p ≡ liftBy (liftOf (left - 1) names s) ws n hd
+  unfolding liftOf
+  lift-head z hd e = let q : left ≡ suc (left - 1) = omega arith in ap (λ (l : ℕ). liftOf l names s ws n p) q ∙ ap (liftBy (liftOf (left - 1) names s) ws n) e
+
+module _ (ws : Words) (n : ℕ) (nd : Node) (e : ℕ) where
+  pub crown-done : (t : ℕ) (ws′ : Words) → build ws n nd ≡ ret (t, ws′) → crown ws n nd e ≡ ret (t, e, ws′)
+  unfolding crown
+  crown-done t ws′ q = ap (λ (m : M Words (ℕ × Words)). m >>= λ o. ret (o .0, e, o .1)) q ∙ bind-ret (t, ws′) (λ o. ret (o .0, e, o .1))
+
+  pub crown-stop : (w : Why) (ws′ : Words) → build ws n nd ≡ fail w ws′ → crown ws n nd e ≡ fail w ws′
+  unfolding crown
+  crown-stop w ws′ q = ap (λ (m : M Words (ℕ × Words)). m >>= λ o. ret (o .0, e, o .1)) q ∙ bind-fail w ws′ (λ o. ret (o .0, e, o .1))
+
+module _ (rec : Words → ℕ → ℕ → M Words Raised) (ws : Words) (n e : ℕ) where
+  pub power-done : (o : Raised) → rec ws n e ≡ ret o → liftBy rec ws n (R.power e) ≡ crown (o .2) (o .0 + 1) (power (o .0)) (o .1)
+  unfolding liftBy
+  power-done o q = ap (λ (m : M Words Raised). m >>= λ o. crown (o .2) (o .0 + 1) (power (o .0)) (o .1)) q ∙ bind-ret o (λ o. crown (o .2) (o .0 + 1) (power (o .0)) (o .1))
+
+  pub power-stop : (w : Why) (ws′ : Words) → rec ws n e ≡ fail w ws′ → liftBy rec ws n (R.power e) ≡ fail w ws′
+  unfolding liftBy
+  power-stop w ws′ q = ap (λ (m : M Words Raised). m >>= λ o. crown (o .2) (o .0 + 1) (power (o .0)) (o .1)) q ∙ bind-fail w ws′ (λ o. crown (o .2) (o .0 + 1) (power (o .0)) (o .1))
+
+  second : Raised → M Words Raised
+  second o = rec (o .2) (o .0 + 1) (o .1) >>= λ u. crown (u .2) (u .0 + 1) (pair (o .0) (u .0)) (u .1)
+
+  left-done : (o : Raised) → rec ws n e ≡ ret o → liftBy rec ws n (R.product e) ≡ second o
+  unfolding liftBy second
+  left-done o q = ap (λ (m : M Words Raised). m >>= second) q ∙ bind-ret o second
+
+  pub left-stop : (w : Why) (ws′ : Words) → rec ws n e ≡ fail w ws′ → liftBy rec ws n (R.product e) ≡ fail w ws′
+  unfolding liftBy second
+  left-stop w ws′ q = ap (λ (m : M Words Raised). m >>= second) q ∙ bind-fail w ws′ second
+
+  pub right-done : (o u : Raised) → rec ws n e ≡ ret o → rec (o .2) (o .0 + 1) (o .1) ≡ ret u → liftBy rec ws n (R.product e) ≡ crown (u .2) (u .0 + 1) (pair (o .0) (u .0)) (u .1)
+  unfolding second
+  right-done o u q r = left-done o q ∙ ap (λ (m : M Words Raised). m >>= λ u. crown (u .2) (u .0 + 1) (pair (o .0) (u .0)) (u .1)) r ∙ bind-ret u (λ u. crown (u .2) (u .0 + 1) (pair (o .0) (u .0)) (u .1))
+
+  pub right-stop : (o : Raised) (w : Why) (ws′ : Words) → rec ws n e ≡ ret o → rec (o .2) (o .0 + 1) (o .1) ≡ fail w ws′ → liftBy rec ws n (R.product e) ≡ fail w ws′
+  unfolding second
+  right-stop o w ws′ q r = left-done o q ∙ ap (λ (m : M Words Raised). m >>= λ u. crown (u .2) (u .0 + 1) (pair (o .0) (u .0)) (u .1)) r ∙ bind-fail w ws′ (λ u. crown (u .2) (u .0 + 1) (pair (o .0) (u .0)) (u .1))
+
+-- ---- the next count fits 32 bits after a lifting
+abbrev Low : Out Words (ℕ × Words) → Type 0
+Low (spent e) = Unit {0}
+Low (halt w e) = Unit {0}
+Low (done o r) = o .0 < 0xFFFFFFFF
+
+abbrev Lowly : Out Words Raised → Type 0
+Lowly (spent e) = Unit {0}
+Lowly (halt w e) = Unit {0}
+Lowly (done o r) = o .0 < 0xFFFFFFFF
+
+module _ (ws : Words) (n b : ℕ) where
+  low-last : (k x y : ℕ) (c : Bool) → ltb n 0xFFFFFFFF ≡ c → Low (choose c (ret (n, pushAt ws n k x y)) (fail broken ws) b)
+  unfolding choose ret fail
+  low-last k x y true e = ltb-true n 0xFFFFFFFF e
+  low-last k x y false e = tt
+
+  low-room : (k x y : ℕ) (c : Bool) → Low (choose c (fail full ws) (choose (ltb n 0xFFFFFFFF) (ret (n, pushAt ws n k x y)) (fail broken ws)) b)
+  unfolding choose fail
+  low-room k x y true = tt
+  low-room k x y false = low-last k x y (ltb n 0xFFFFFFFF) refl
+
+  low-count : (k x y : ℕ) (c : Bool) → Low (choose c (fail broken ws) (choose (ltb (length ws) (3 * n + 3)) (fail full ws) (choose (ltb n 0xFFFFFFFF) (ret (n, pushAt ws n k x y)) (fail broken ws))) b)
+  unfolding choose fail
+  low-count k x y true = tt
+  low-count k x y false = low-room k x y (ltb (length ws) (3 * n + 3))
+
+  low-make : (k x y : ℕ) → Low (makeOf ws n k x y b)
+  unfolding makeOf
+  low-make k x y = low-count k x y (ltb (length ws) (3 * n))
+
+  low-if : (k x y : ℕ) (c : Bool) → Low (choose c (makeOf ws n k x y) (fail broken ws) b)
+  unfolding choose fail
+  low-if k x y true = low-make k x y
+  low-if k x y false = tt
+
+  low-build : (nd : Node) → Low (build ws n nd b)
+  unfolding build fail
+  low-build free = low-make 0x4E 0 0
+  low-build (link j) = tt
+  low-build (leaf bool) = low-make 0x40 0 0
+  low-build (leaf int) = low-make 0x41 0 0
+  low-build (leaf (given x)) = low-make 0x42 x 0
+  low-build (power x) = low-if 0x43 x 0 (ltb x n)
+  low-build (pair x y) = low-if 0x44 x y (ltb x n && ltb y n)
+  low-build bad = tt
+
+low-crown : (ws : Words) (n : ℕ) (nd : Node) (e b : ℕ) → Lowly (crown ws n nd e b)
+unfolding crown _>>=_ ret
+low-crown ws n nd e b = go (build ws n nd b) (low-build ws n b nd)
+  where
+    go : (o : Out Words (ℕ × Words)) → Low o → Lowly (on o (λ o. ret (o .0, e, o .1)))
+    go (spent x) h = tt
+    go (halt w x) h = tt
+    go (done x r) h = h
+
+low-on : (o : Out Words Raised) (k : Raised → M Words Raised) → ((u : Raised) (b : ℕ) → Lowly (k u b)) → Lowly (on o k)
+unfolding on
+low-on (spent x) k h = tt
+low-on (halt w x) k h = tt
+low-on (done u r) k h = h u r
+
+low-by : (rec : Words → ℕ → ℕ → M Words Raised) (ws : Words) (n : ℕ) (hd : R.Head) (b : ℕ) → Lowly (liftBy rec ws n hd b)
+unfolding liftBy fail _>>=_
+low-by rec ws n R.wrong b = tt
+low-by rec ws n (R.atomic a e) b = low-crown ws n (leaf a) e b
+low-by rec ws n (R.power e) b = low-on (rec ws n e b) _ (λ o c. low-crown (o .2) (o .0 + 1) (power (o .0)) (o .1) c)
+low-by rec ws n (R.product e) b = low-on (rec ws n e b) _ (λ o c. low-on (rec (o .2) (o .0 + 1) (o .1) c) _ (λ u d. low-crown (u .2) (u .0 + 1) (pair (o .0) (u .0)) (u .1) d))
+
+low-lift : (left names : ℕ) (s : List ℕ) (ws : Words) (n p b : ℕ) → Lowly (liftOf left names s ws n p b)
+unfolding liftOf fail
+low-lift zero names s ws n p b = tt
+low-lift (suc left) names s ws n p b = low-by (liftOf left names s) ws n (headOf names p (drop p s)) b
+
+pub lift-small : (left names : ℕ) (s : List ℕ) (ws : Words) (n p : ℕ) (o : Raised) → liftOf left names s ws n p ≡ ret o → o .0 < 0xFFFFFFFF
+unfolding ret
+lift-small left names s ws n p o e = subst (λ (q : Out Words Raised). Lowly q) (ap (λ (m : M Words Raised). m 0) e) (low-lift left names s ws n p 0)
