@@ -7,4 +7,5 @@ pub mod Scan
 pub mod Lay
 pub mod Read
 pub mod Entries
+pub mod Writes
 pub mod Examples
