@@ -18,17 +18,19 @@ fn main() {
     // A file that is not there counts as changed, so an archive that appears later is found.
     println!("cargo:rerun-if-changed={}", archive.display());
     println!("cargo:rustc-env=TYPECHECK_ARCHIVE={}", archive.display());
-    if archive.is_file() {
+    let texts = folder.join("libtext_entries.a");
+    println!("cargo:rerun-if-changed={}", texts.display());
+    if archive.is_file() || texts.is_file() {
         println!("cargo:rustc-link-search=native={}", folder.display());
+    }
+    if archive.is_file() {
         println!("cargo:rustc-link-lib=static=host");
     } else {
         println!("cargo:rustc-cfg=no_archive");
-        let texts = folder.join("libtext_entries.a");
-        println!("cargo:rerun-if-changed={}", texts.display());
-        if texts.is_file() {
-            println!("cargo:rustc-cfg=text_archive");
-            println!("cargo:rustc-link-search=native={}", folder.display());
-            println!("cargo:rustc-link-lib=static=text_entries");
-        }
+    }
+    // After the host's, so that it serves only what that does not have.
+    if texts.is_file() {
+        println!("cargo:rustc-cfg=text_archive");
+        println!("cargo:rustc-link-lib=static=text_entries");
     }
 }
