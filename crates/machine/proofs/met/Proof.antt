@@ -1,0 +1,22 @@
+use mathlib.Core.Path.{refl, sym, ap, _∙_}
+use native.Mathlib.Omega.{arith}
+use Rattle.machine.specs.Forms.{test, then, step, yes-if, no-if, yes-eq, no-eq, yes-lt, no-lt, yes-le, no-le}
+use Rattle.machine.specs.Machine.{metOf}
+use borrow.Author.Needs.{needs}
+use Rattle.machine.proofs.met.Statement.{statement}
+use Rattle.machine.proofs.met.Tie as tie
+use Rattle.machine.proofs.met.Reads as reads
+use Rattle.machine.proofs.met.Lts as lts
+
+-- src/lib.rt:181:9
+returns : tie.Need-returns
+unfolding metOf
+returns c = no-eq _ _ _ _ _ (c .if1 .taken) (refl)
+
+-- src/lib.rt:177:1
+returns-2 : tie.Need-returns-2
+unfolding metOf
+returns-2 c = yes-eq _ _ _ _ _ (c .if1 .left) (refl)
+
+pub met-spec : {M : Type 1} → statement M
+met-spec = tie.close (tie.spec returns returns-2)

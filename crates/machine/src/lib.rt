@@ -1,0 +1,1183 @@
+// The walk's machine: its state, and the steps that every walk is made of. The state goes by value; the arena is the first `size` words of the
+// work slice, the book stands behind it, and problems go straight into the output. A stopped state passes through every step unchanged.
+mod tables;
+
+use types::Name;
+use types::NodeRef;
+use types::Place;
+use unifier::Made;
+use unifier::Told;
+use unifier::Unified;
+ghost use mathlib.Core.Path.{_≡_};
+ghost use Prim.Native.Nat.{ℕ, _+_, _*_, _-_, _<_, _≤_};
+ghost use mathlib.Core.List.{List};
+ghost use lib.ListN.{length, getD, take, drop, set};
+ghost use Rattle.unification.specs.Arena.{decode, unify, solved};
+ghost use Rattle.unification.specs.Make.{build};
+ghost use Rattle.unifier.specs.Answers.{made, settled, told};
+ghost use Rattle.machine.specs.declared.State as S;
+ghost use Rattle.machine.specs.Machine.{Mach, mach, whole, cell, byteAt, wordAt, smaller, stoppedOf, movedOf, placedOf, gaveOf, boundOf, paidOf, enterOf, grownOf, leftOf, arrivedOf, metOf, bytesOf, overOf, putOf, wordOf, emitOf, twoOf, fourOf, listOf, makeOf, expectOf, leaveOf, rememberOf, enrolOf, pushBoundOf};
+ghost use Rattle.machine.specs.Types.{skipOf, liftOf, freeOf, boundIdentifierOf, noteOf, notesOf, meetsOf, spelledOf, ascriptionOf, claimOf, declarationOf, declareOf};
+ghost use Rattle.machine.specs.Scripts.{checkAtomicOf, checkBinaryOf, checkUnaryOf, checkQuantifiedOf, checkRelationalOf, checkAssociativeOf, scriptAt, itemAt, chosenOf, placeOf, itemOf, playOf, partsOf};
+
+// ---- the state
+
+// What the walk carries. `stop` is 0 while it goes on, else the number it stops with: 6, 7, or 2 for what cannot happen once the form is tested.
+pub struct State {
+    // the next byte of the formula
+    pub at: Place,
+    // the place of the expression walked last, which a comparison with it is listed at
+    pub from: Place,
+    // the reference of what was walked or made last
+    pub last: NodeRef,
+    // the nodes of the arena
+    pub nodes: u32,
+    // the units left
+    pub budget: u64,
+    // the slots taken, the names met that the environment lacks, the declarations around
+    pub slots: u32,
+    pub met: u32,
+    pub bound: u32,
+    // the bytes written into the output, and whether one found no room
+    pub bytes: usize,
+    pub over: bool,
+    pub stop: u8,
+}
+
+// ---- the book: areas of the words behind the arena, each by where it begins and the words of an entry
+
+// a slot: reference, place
+pub const SLOTS: u32 = 0;
+// a name met that the environment lacks: name, reference, place
+pub const ROW: u32 = 2048;
+// by name: 1 once it has a reference, and the reference
+pub const REFS: u32 = 2816;
+// the declarations around, innermost last: reference
+pub const OPENED: u32 = 3328;
+// by name: 0, or the place of its type in the environment plus 1
+pub const ENTRIES: u32 = 3392;
+
+// what stands for a name where a problem has none
+pub const NO_NAME: u32 = 0xFFFF;
+
+// ---- bytes of the formula
+
+fn wide(b: u8) -> u32
+    ensures { λ r. ⌜ r ≡ b ⌝ }
+{
+    b as u32
+}
+
+// The byte at an index, and 0 past the end.
+fn get(s: &[u8], i: usize) -> u8
+    ensures { λ r. ⌜ r ≡ getD (now (s .entry)) i 0 ⌝ }
+{
+    if i < s.len() { s[i] } else { 0 }
+}
+
+// The byte k places after a place.
+pub fn byte(s: &[u8], at: Place, k: u8) -> u8
+    ensures { λ r. ⌜ r ≡ byteAt (now (s .entry)) (at .0) k ⌝ }
+{
+    let i = at.0 as usize + k as usize;
+    get(s, i)
+}
+
+// The two bytes from k places after a place on, the lower first.
+pub fn word(s: &[u8], at: Place, k: u8) -> u32
+    ensures { λ r. ⌜ r ≡ wordAt (now (s .entry)) (at .0) k ⌝ }
+{
+    let i = at.0 as usize + k as usize;
+    let lo = wide(get(s, i));
+    let hi = wide(get(s, i + 1));
+    lo + hi * 256
+}
+
+// ---- steps on the state alone
+
+// The walk stops with a number, unless it has stopped.
+pub fn stopped(n: u8, st: State) -> State
+    ensures { λ r. ⌜ r ≡ stoppedOf n st ⌝ }
+{
+    if st.stop != 0 {
+        return st;
+    }
+    let mut v = st;
+    v.stop = n;
+    v
+}
+
+// The walk stands n bytes further.
+pub fn moved(n: u8, st: State) -> State
+    ensures { λ r. ⌜ r ≡ movedOf n st ⌝ }
+{
+    if st.stop != 0 {
+        return st;
+    }
+    let at = st.at;
+    let here = at.0;
+    if here < 65536 {
+        let mut v = st;
+        let next = Place(here + n as u32);
+        v.at = next;
+        return v;
+    }
+    stopped(2, st)
+}
+
+// The walk stands at a place.
+pub fn placed(at: Place, st: State) -> State
+    ensures { λ r. ⌜ r ≡ placedOf (at .0) st ⌝ }
+{
+    if st.stop != 0 {
+        return st;
+    }
+    let mut v = st;
+    v.at = at;
+    v
+}
+
+// The last reference is r.
+pub fn gave(r: NodeRef, st: State) -> State
+    ensures { λ v. ⌜ v ≡ gaveOf (r .0) st ⌝ }
+{
+    if st.stop != 0 {
+        return st;
+    }
+    let mut v = st;
+    v.last = r;
+    v
+}
+
+// The expression walked last stands at a place.
+fn arrived(from: Place, st: State) -> State
+    ensures { λ r. ⌜ r ≡ arrivedOf (from .0) st ⌝ }
+{
+    if st.stop != 0 {
+        return st;
+    }
+    let mut v = st;
+    v.from = from;
+    v
+}
+
+// n declarations are around.
+pub fn bounded(n: u32, st: State) -> State
+    ensures { λ r. ⌜ r ≡ boundOf n st ⌝ }
+{
+    if st.stop != 0 {
+        return st;
+    }
+    let mut v = st;
+    v.bound = n;
+    v
+}
+
+// n names were met that the environment lacks.
+fn met(n: u32, st: State) -> State
+    ensures { λ r. ⌜ r ≡ metOf n st ⌝ }
+{
+    if st.stop != 0 {
+        return st;
+    }
+    let mut v = st;
+    v.met = n;
+    v
+}
+
+// A budget is left.
+pub fn left_with(budget: u64, st: State) -> State
+    ensures { λ r. ⌜ r ≡ leftOf budget st ⌝ }
+{
+    if st.stop != 0 {
+        return st;
+    }
+    let mut v = st;
+    v.budget = budget;
+    v
+}
+
+// The output is written up to n.
+pub fn written(n: usize, st: State) -> State
+    ensures { λ r. ⌜ r ≡ bytesOf n st ⌝ }
+{
+    if st.stop != 0 {
+        return st;
+    }
+    let mut v = st;
+    v.bytes = n;
+    v
+}
+
+// A byte found no room in the output.
+pub fn overfull(st: State) -> State
+    ensures { λ r. ⌜ r ≡ overOf st ⌝ }
+{
+    if st.stop != 0 {
+        return st;
+    }
+    let mut v = st;
+    v.over = true;
+    v
+}
+
+// A node stands at r, the last one of the arena.
+fn grown(r: NodeRef, st: State) -> State
+    ensures { λ v. ⌜ v ≡ grownOf (r .0) st ⌝ }
+{
+    if st.stop != 0 {
+        return st;
+    }
+    let n = r.0;
+    if n < 65536 {
+        let mut v = st;
+        v.nodes = n + 1;
+        v.last = r;
+        return v;
+    }
+    stopped(2, st)
+}
+
+// One unit is paid.
+pub fn paid(st: State) -> State
+    ensures { λ r. ⌜ r ≡ paidOf st ⌝ }
+{
+    if st.stop != 0 {
+        return st;
+    }
+    let b = st.budget;
+    if b == 0 {
+        return stopped(7, st);
+    }
+    left_with(b - 1, st)
+}
+
+// An expression or declaration is entered: a unit is paid and a slot taken.
+pub fn enter(st: State) -> State
+    ensures { λ r. ⌜ r ≡ enterOf st ⌝ }
+{
+    let v = paid(st);
+    if v.stop != 0 {
+        return v;
+    }
+    let n = v.slots;
+    if n < 1024 {
+        let mut w = v;
+        w.slots = n + 1;
+        return w;
+    }
+    stopped(2, v)
+}
+
+// ---- the book
+
+// Where word k of entry j of an area stands in the book.
+fn cell(area: u32, stride: u8, j: u32, k: u32) -> usize
+    ensures { λ r. ⌜ r ≡ cell area stride j k ⌝ }
+    ensures { λ r. ⌜ r < 17592186044416 ⌝ }
+{
+    area as usize + j as usize * stride as usize + k as usize
+}
+
+// A word of the book. 0 outside.
+pub fn read(work: &[u32], size: u32, area: u32, stride: u8, j: u32, k: u32) -> u32
+    ensures { λ r. ⌜ r ≡ getD (drop size (now (work .entry))) (cell area stride j k) 0 ⌝ }
+{
+    let i = size as usize + cell(area, stride, j, k);
+    if i < work.len() { work[i] } else { 0 }
+}
+
+// Writes a word of the book; nothing outside.
+pub fn put(work: &mut [u32], size: u32, area: u32, stride: u8, j: u32, k: u32, value: u32)
+    ensures { λ _. ⌜ ((st : S.State) (out : List ℕ) → mach size st (now (work .exit)) out ≡ putOf (cell area stride j k) value (mach size st (now (work .entry)) out)) ⌝ }
+{
+    let i = size as usize + cell(area, stride, j, k);
+    if i < work.len() {
+        work[i] = value;
+    }
+}
+
+// ---- the output
+
+// A byte is written into the output.
+pub fn emit(output: &mut [u8], byte: u8, st: State) -> State
+    ensures { λ r. ⌜ ((a b : List ℕ) → whole r a b (now (output .exit)) ≡ emitOf byte (whole st a b (now (output .entry)))) ⌝ }
+{
+    if st.stop != 0 {
+        return st;
+    }
+    if st.over {
+        return st;
+    }
+    let n = st.bytes;
+    if n < output.len() {
+        output[n] = byte;
+        return written(n + 1, st);
+    }
+    overfull(st)
+}
+
+// Two bytes, the lower first.
+pub fn emit_two(output: &mut [u8], v: u32, st: State) -> State
+    ensures { λ r. ⌜ ((a b : List ℕ) → whole r a b (now (output .exit)) ≡ twoOf v (whole st a b (now (output .entry)))) ⌝ }
+{
+    let a = emit(output, (v % 256) as u8, st);
+    emit(output, (v / 256 % 256) as u8, a)
+}
+
+// Four bytes, the lowest first.
+pub fn emit_four(output: &mut [u8], v: u32, st: State) -> State
+    ensures { λ r. ⌜ ((a b : List ℕ) → whole r a b (now (output .exit)) ≡ fourOf v (whole st a b (now (output .entry)))) ⌝ }
+{
+    let a = emit_two(output, v % 65536, st);
+    emit_two(output, v / 65536, a)
+}
+
+// A problem is listed: its entry goes straight into the output.
+pub fn list(output: &mut [u8], problem: u8, place: Place, name: Name, st: State) -> State
+    ensures { λ r. ⌜ ((a b : List ℕ) → whole r a b (now (output .exit)) ≡ listOf problem (place .0) (name .0) (whole st a b (now (output .entry)))) ⌝ }
+{
+    let a = emit(output, 0x60, st);
+    let b = emit(output, problem, a);
+    let c = emit_four(output, place.0, b);
+    emit_two(output, name.0, c)
+}
+
+// ---- the arena: the first `size` words of the work slice are lent to the unifier, in functions that do nothing else
+
+fn within(size: u32, most: usize) -> usize
+    ensures { λ r. ⌜ r ≡ smaller size most ⌝ }
+    ensures { λ r. ⌜ r ≤ most ⌝ }
+{
+    let n = size as usize;
+    if n < most { n } else { most }
+}
+
+fn push(work: &mut [u32], size: u32, count: u32, kind: u32, a: u32, b: u32) -> Made
+    ensures { λ r. ⌜ made r (take size (now (work .exit))) ≡ build (take size (now (work .entry))) count (decode kind a b) ⌝ }
+    ensures { λ _. ⌜ drop size (now (work .exit)) ≡ drop size (now (work .entry)) ⌝ }
+{
+    let n = within(size, work.len());
+    match kind {
+        0x4E => unifier::fresh(&mut work[..n], count),
+        0x40 => unifier::boolean(&mut work[..n], count),
+        0x41 => unifier::int(&mut work[..n], count),
+        0x42 => unifier::given(&mut work[..n], count, Name(a)),
+        0x43 => unifier::pow(&mut work[..n], count, NodeRef(a)),
+        0x44 => unifier::prod(&mut work[..n], count, NodeRef(a), NodeRef(b)),
+        _ => Made::Broken,
+    }
+}
+
+fn unified(work: &mut [u32], size: u32, count: u32, a: NodeRef, b: NodeRef, budget: u64) -> Unified
+    ensures { λ r. ⌜ settled r (take size (now (work .exit))) ≡ unify count (take size (now (work .entry)), a .0, b .0) budget ⌝ }
+    ensures { λ _. ⌜ drop size (now (work .exit)) ≡ drop size (now (work .entry)) ⌝ }
+{
+    let n = within(size, work.len());
+    unifier::unify(&mut work[..n], count, a, b, budget)
+}
+
+// Whether no unknown remains below a reference.
+pub fn solved(work: &[u32], size: u32, count: u32, t: NodeRef, budget: u64) -> Told
+    ensures { λ r. ⌜ told r ≡ solved (take size (now (work .entry))) count (t .0) budget ⌝ }
+{
+    let n = within(size, work.len());
+    unifier::solved(&work[..n], count, t, budget)
+}
+
+// A node is made.
+pub fn make(work: &mut [u32], size: u32, kind: u32, a: u32, b: u32, st: State) -> State
+    ensures { λ r. ⌜ ((out : List ℕ) → mach size r (now (work .exit)) out ≡ makeOf kind a b (mach size st (now (work .entry)) out)) ⌝ }
+{
+    if st.stop != 0 {
+        return st;
+    }
+    let made = push(work, size, st.nodes, kind, a, b);
+    match made {
+        Made::At(r) => grown(r, st),
+        Made::Full => stopped(6, st),
+        Made::Broken => stopped(2, st),
+    }
+}
+
+// Two references are made equal; where they cannot be, a problem is listed at the place.
+pub fn expect(
+    work: &mut [u32],
+    output: &mut [u8],
+    size: u32,
+    a: NodeRef,
+    b: NodeRef,
+    place: Place,
+    st: State,
+) -> State
+    ensures { λ r. ⌜ mach size r (now (work .exit)) (now (output .exit)) ≡ expectOf (a .0) (b .0) (place .0) (mach size st (now (work .entry)) (now (output .entry))) ⌝ }
+{
+    if st.stop != 0 {
+        return st;
+    }
+    let ended = unified(work, size, st.nodes, a, b, st.budget);
+    match ended {
+        Unified::Done(left) => left_with(left, st),
+        Unified::Mismatch(left) => list(output, 0, place, Name(NO_NAME), left_with(left, st)),
+        Unified::Circular(left) => list(output, 1, place, Name(NO_NAME), left_with(left, st)),
+        Unified::Spent => stopped(7, st),
+        Unified::Broken => stopped(2, st),
+    }
+}
+
+// ---- slots, names, declarations
+
+// The slot of what was walked last is filled, with its place.
+pub fn leave(work: &mut [u32], size: u32, slot: u32, place: Place, st: State) -> State
+    ensures { λ r. ⌜ ((out : List ℕ) → mach size r (now (work .exit)) out ≡ leaveOf slot (place .0) (mach size st (now (work .entry)) out)) ⌝ }
+{
+    if st.stop != 0 {
+        return st;
+    }
+    let r = st.last;
+    put(work, size, SLOTS, 2, slot, 0, r.0);
+    put(work, size, SLOTS, 2, slot, 1, place.0);
+    arrived(place, st)
+}
+
+// A name's reference is the last one from here on.
+fn remember(work: &mut [u32], size: u32, name: Name, st: State) -> State
+    ensures { λ r. ⌜ ((out : List ℕ) → mach size r (now (work .exit)) out ≡ rememberOf (name .0) (mach size st (now (work .entry)) out)) ⌝ }
+{
+    if st.stop != 0 {
+        return st;
+    }
+    let r = st.last;
+    put(work, size, REFS, 2, name.0, 0, 1);
+    put(work, size, REFS, 2, name.0, 1, r.0);
+    st
+}
+
+// A name that the environment lacks is met: it stands in the row, with its unknown and its place.
+fn enrol(work: &mut [u32], size: u32, name: Name, place: Place, st: State) -> State
+    ensures { λ r. ⌜ ((out : List ℕ) → mach size r (now (work .exit)) out ≡ enrolOf (name .0) (place .0) (mach size st (now (work .entry)) out)) ⌝ }
+{
+    if st.stop != 0 {
+        return st;
+    }
+    let n = st.met;
+    if n < 256 {
+        let r = st.last;
+        put(work, size, ROW, 3, n, 0, name.0);
+        put(work, size, ROW, 3, n, 1, r.0);
+        put(work, size, ROW, 3, n, 2, place.0);
+        return met(n + 1, st);
+    }
+    stopped(2, st)
+}
+
+// The declaration made last is around what follows.
+fn push_bound(work: &mut [u32], size: u32, st: State) -> State
+    ensures { λ r. ⌜ ((out : List ℕ) → mach size r (now (work .exit)) out ≡ pushBoundOf (mach size st (now (work .entry)) out)) ⌝ }
+{
+    if st.stop != 0 {
+        return st;
+    }
+    let n = st.bound;
+    if n < 64 {
+        let r = st.last;
+        put(work, size, OPENED, 1, n, 0, r.0);
+        return bounded(n + 1, st);
+    }
+    stopped(2, st)
+}
+
+// ---- types in the stream
+
+// Past the type record where the walk stands.
+pub fn skip(s: &[u8], left: u32, st: State) -> State
+    ensures { λ r. ⌜ r ≡ skipOf left (now (s .entry)) st ⌝ }
+{
+    if st.stop != 0 {
+        return st;
+    }
+    if left == 0 {
+        return stopped(2, st);
+    }
+    let k = byte(s, st.at, 0);
+    if k == 0x40 {
+        return moved(1, st);
+    }
+    if k == 0x41 {
+        return moved(1, st);
+    }
+    if k == 0x42 {
+        return moved(3, st);
+    }
+    if k == 0x43 {
+        return skip(s, left - 1, moved(1, st));
+    }
+    if k == 0x44 {
+        let a = skip(s, left - 1, moved(1, st));
+        return skip(s, left - 1, a);
+    }
+    stopped(2, st)
+}
+
+// The type record where the walk stands, as nodes: parts first, left first.
+pub fn lift(s: &[u8], work: &mut [u32], size: u32, left: u32, st: State) -> State
+    ensures { λ r. ⌜ ((out : List ℕ) → mach size r (now (work .exit)) out ≡ liftOf left (now (s .entry)) (mach size st (now (work .entry)) out)) ⌝ }
+{
+    if st.stop != 0 {
+        return st;
+    }
+    if left == 0 {
+        return stopped(2, st);
+    }
+    let k = byte(s, st.at, 0);
+    if k == 0x40 {
+        return make(work, size, 0x40, 0, 0, moved(1, st));
+    }
+    if k == 0x41 {
+        return make(work, size, 0x41, 0, 0, moved(1, st));
+    }
+    if k == 0x42 {
+        let name = word(s, st.at, 1);
+        return make(work, size, 0x42, name, 0, moved(3, st));
+    }
+    if k == 0x43 {
+        let a = lift(s, work, size, left - 1, moved(1, st));
+        let x = a.last;
+        return make(work, size, 0x43, x.0, 0, a);
+    }
+    if k == 0x44 {
+        let a = lift(s, work, size, left - 1, moved(1, st));
+        let x = a.last;
+        let b = lift(s, work, size, left - 1, a);
+        let y = b.last;
+        return make(work, size, 0x44, x.0, y.0, b);
+    }
+    stopped(2, st)
+}
+
+// A free name: its environment type, lifted once; otherwise one unknown for all its occurrences.
+pub fn free_identifier(
+    environment: &[u8],
+    work: &mut [u32],
+    size: u32,
+    name: Name,
+    place: Place,
+    st: State,
+) -> State
+    ensures { λ r. ⌜ ((out : List ℕ) → mach size r (now (work .exit)) out ≡ freeOf (now (environment .entry)) (name .0) (place .0) (mach size st (now (work .entry)) out)) ⌝ }
+{
+    if st.stop != 0 {
+        return st;
+    }
+    let known = read(work, size, REFS, 2, name.0, 0);
+    if known != 0 {
+        let r = NodeRef(read(work, size, REFS, 2, name.0, 1));
+        return gave(r, st);
+    }
+    let entry = read(work, size, ENTRIES, 1, name.0, 0);
+    if entry == 0 {
+        let a = make(work, size, 0x4E, 0, 0, st);
+        let b = remember(work, size, name, a);
+        return enrol(work, size, name, place, b);
+    }
+    let back = st.at;
+    let a = placed(Place(entry - 1), st);
+    let b = lift(environment, work, size, 65, a);
+    let c = remember(work, size, name, b);
+    placed(back, c)
+}
+
+// A bound identifier, counted from the innermost declaration. A dangling one lists problem 4 and takes an unknown.
+pub fn bound_identifier(
+    work: &mut [u32],
+    output: &mut [u8],
+    size: u32,
+    index: u32,
+    place: Place,
+    st: State,
+) -> State
+    ensures { λ r. ⌜ mach size r (now (work .exit)) (now (output .exit)) ≡ boundIdentifierOf index (place .0) (mach size st (now (work .entry)) (now (output .entry))) ⌝ }
+{
+    if st.stop != 0 {
+        return st;
+    }
+    let n = st.bound;
+    if index < n {
+        let r = NodeRef(read(work, size, OPENED, 1, n - 1 - index, 0));
+        return gave(r, st);
+    }
+    let a = list(output, 4, place, Name(NO_NAME), st);
+    make(work, size, 0x4E, 0, 0, a)
+}
+
+// A given name that a spelled type holds: where the environment lacks it, it must have the type of its own power set.
+fn note(
+    environment: &[u8],
+    work: &mut [u32],
+    output: &mut [u8],
+    size: u32,
+    name: Name,
+    place: Place,
+    st: State,
+) -> State
+    ensures { λ r. ⌜ mach size r (now (work .exit)) (now (output .exit)) ≡ noteOf (now (environment .entry)) (name .0) (place .0) (mach size st (now (work .entry)) (now (output .entry))) ⌝ }
+{
+    if st.stop != 0 {
+        return st;
+    }
+    let entry = read(work, size, ENTRIES, 1, name.0, 0);
+    if entry != 0 {
+        return st;
+    }
+    let a = free_identifier(environment, work, size, name, place, st);
+    let t = a.last;
+    let b = make(work, size, 0x42, name.0, 0, a);
+    let g = b.last;
+    let c = make(work, size, 0x43, g.0, 0, b);
+    let p = c.last;
+    expect(work, output, size, t, p, place, c)
+}
+
+// The given names of the type record where the walk stands are noted, left to right, at a place.
+fn note_spelled_givens(
+    s: &[u8],
+    environment: &[u8],
+    work: &mut [u32],
+    output: &mut [u8],
+    size: u32,
+    left: u32,
+    place: Place,
+    st: State,
+) -> State
+    ensures { λ r. ⌜ mach size r (now (work .exit)) (now (output .exit)) ≡ notesOf left (now (s .entry)) (now (environment .entry)) (place .0) (mach size st (now (work .entry)) (now (output .entry))) ⌝ }
+{
+    if st.stop != 0 {
+        return st;
+    }
+    if left == 0 {
+        return stopped(2, st);
+    }
+    let k = byte(s, st.at, 0);
+    if k == 0x40 {
+        return moved(1, st);
+    }
+    if k == 0x41 {
+        return moved(1, st);
+    }
+    if k == 0x42 {
+        let name = Name(word(s, st.at, 1));
+        return note(environment, work, output, size, name, place, moved(3, st));
+    }
+    if k == 0x43 {
+        return note_spelled_givens(
+            s,
+            environment,
+            work,
+            output,
+            size,
+            left - 1,
+            place,
+            moved(1, st),
+        );
+    }
+    if k == 0x44 {
+        let a = note_spelled_givens(
+            s,
+            environment,
+            work,
+            output,
+            size,
+            left - 1,
+            place,
+            moved(1, st),
+        );
+        return note_spelled_givens(s, environment, work, output, size, left - 1, place, a);
+    }
+    stopped(2, st)
+}
+
+// The type record where the walk stands is compared with a reference.
+pub fn meets(
+    s: &[u8],
+    work: &mut [u32],
+    output: &mut [u8],
+    size: u32,
+    x: NodeRef,
+    place: Place,
+    st: State,
+) -> State
+    ensures { λ r. ⌜ mach size r (now (work .exit)) (now (output .exit)) ≡ meetsOf (now (s .entry)) (x .0) (place .0) (mach size st (now (work .entry)) (now (output .entry))) ⌝ }
+{
+    let a = lift(s, work, size, 65, st);
+    let t = a.last;
+    expect(work, output, size, x, t, place, a)
+}
+
+// The same for a spelled type, whose given names are noted first, at a place of their own.
+fn spelled(
+    s: &[u8],
+    environment: &[u8],
+    work: &mut [u32],
+    output: &mut [u8],
+    size: u32,
+    x: NodeRef,
+    noted: Place,
+    place: Place,
+    st: State,
+) -> State
+    ensures { λ r. ⌜ mach size r (now (work .exit)) (now (output .exit)) ≡ spelledOf (now (s .entry)) (now (environment .entry)) (x .0) (noted .0) (place .0) (mach size st (now (work .entry)) (now (output .entry))) ⌝ }
+{
+    let at = st.at;
+    let a = note_spelled_givens(s, environment, work, output, size, 65, noted, st);
+    let b = placed(at, a);
+    meets(s, work, output, size, x, place, b)
+}
+
+// The type of an ascription against its expression; no type lists problem 0.
+pub fn ascription(
+    s: &[u8],
+    environment: &[u8],
+    work: &mut [u32],
+    output: &mut [u8],
+    size: u32,
+    x: NodeRef,
+    place: Place,
+    st: State,
+) -> State
+    ensures { λ r. ⌜ mach size r (now (work .exit)) (now (output .exit)) ≡ ascriptionOf (now (s .entry)) (now (environment .entry)) (x .0) (place .0) (mach size st (now (work .entry)) (now (output .entry))) ⌝ }
+{
+    let at = st.at;
+    let k = byte(s, at, 0);
+    if k == 0x4F {
+        let a = list(output, 0, at, Name(NO_NAME), st);
+        return moved(1, a);
+    }
+    spelled(s, environment, work, output, size, x, at, place, st)
+}
+
+// What a declaration's kind says of its reference: nothing, a type, an annotation.
+fn claim(
+    s: &[u8],
+    environment: &[u8],
+    work: &mut [u32],
+    output: &mut [u8],
+    size: u32,
+    kind: u8,
+    x: NodeRef,
+    place: Place,
+    st: State,
+) -> State
+    ensures { λ r. ⌜ mach size r (now (work .exit)) (now (output .exit)) ≡ claimOf (now (s .entry)) (now (environment .entry)) kind (x .0) (place .0) (mach size st (now (work .entry)) (now (output .entry))) ⌝ }
+{
+    if kind == 0x10 {
+        return st;
+    }
+    if kind == 0x11 {
+        return meets(s, work, output, size, x, place, st);
+    }
+    let k = byte(s, st.at, 0);
+    if k == 0x4F {
+        return moved(1, st);
+    }
+    spelled(s, environment, work, output, size, x, place, place, st)
+}
+
+// One declaration.
+fn declaration(
+    s: &[u8],
+    environment: &[u8],
+    work: &mut [u32],
+    output: &mut [u8],
+    size: u32,
+    st: State,
+) -> State
+    ensures { λ r. ⌜ mach size r (now (work .exit)) (now (output .exit)) ≡ declarationOf (now (s .entry)) (now (environment .entry)) (mach size st (now (work .entry)) (now (output .entry))) ⌝ }
+{
+    let slot = st.slots;
+    let place = st.at;
+    let kind = byte(s, place, 0);
+    let a = moved(1, enter(st));
+    let b = make(work, size, 0x4E, 0, 0, a);
+    let x = b.last;
+    let c = leave(work, size, slot, place, b);
+    let d = push_bound(work, size, c);
+    claim(s, environment, work, output, size, kind, x, place, d)
+}
+
+// n declarations.
+pub fn declare(
+    s: &[u8],
+    environment: &[u8],
+    work: &mut [u32],
+    output: &mut [u8],
+    size: u32,
+    n: u8,
+    st: State,
+) -> State
+    ensures { λ r. ⌜ mach size r (now (work .exit)) (now (output .exit)) ≡ declareOf (now (s .entry)) (now (environment .entry)) n (mach size st (now (work .entry)) (now (output .entry))) ⌝ }
+{
+    let mut v = st;
+    let mut i = n;
+    while 0 < i {
+        v = declaration(s, environment, work, output, size, v);
+        i -= 1;
+    }
+    v
+}
+
+// ---- scripts: the nodes and comparisons of each operator, as data. A script is numbered; its row says which items it plays and what it gives.
+// no node, no comparison; gives its left part
+pub const NOTHING: u8 = 0;
+// ℤ, ℕ, ℕ1: P(ℤ)
+pub const INTEGERS: u8 = 1;
+// BOOL: P(BOOL)
+pub const BOOLEANS: u8 = 2;
+// TRUE, FALSE and bool(..): BOOL
+pub const TRUTH: u8 = 3;
+// pred, succ: P(ℤ × ℤ)
+pub const SUCCESSION: u8 = 4;
+// ∅: P(α)
+pub const EMPTY_SET: u8 = 5;
+// id: P(α × α)
+pub const IDENTITY: u8 = 6;
+// prj1: P((α × β) × α)
+pub const FIRST_OF: u8 = 7;
+// prj2: P((α × β) × β)
+pub const SECOND_OF: u8 = 8;
+// ↦
+pub const MAPLET: u8 = 9;
+// ↔ and its family
+pub const RELATIONS: u8 = 10;
+// ∖
+pub const DIFFERENCE: u8 = 11;
+// ×
+pub const CARTESIAN: u8 = 12;
+// ⊗
+pub const DIRECT: u8 = 13;
+// ∥
+pub const PARALLEL: u8 = 14;
+// ◁, ⩤
+pub const DOMAIN_CUT: u8 = 15;
+// ▷, ⩥
+pub const RANGE_CUT: u8 = 16;
+// ..
+pub const INTERVAL: u8 = 17;
+// −, ÷, mod, ^
+pub const ARITHMETIC: u8 = 18;
+// f(x)
+pub const APPLICATION: u8 = 19;
+// r[s]
+pub const IMAGE: u8 = 20;
+// card
+pub const CARDINALITY: u8 = 21;
+// ℙ, ℙ1
+pub const POWERSET: u8 = 22;
+// union, inter
+pub const GENERALIZED: u8 = 23;
+// dom
+pub const DOMAIN: u8 = 24;
+// ran
+pub const RANGE: u8 = 25;
+// min, max
+pub const EXTREMUM: u8 = 26;
+// r∼
+pub const CONVERSE: u8 = 27;
+// unary −
+pub const MINUS: u8 = 28;
+// quantified union and intersection: the expression is a set
+pub const SET: u8 = 29;
+// comprehension, and a set extension once its members are walked: P of the part
+pub const POWER: u8 = 30;
+// =, ≠
+pub const EQUALITY: u8 = 31;
+// <, ≤, >, ≥
+pub const ORDER: u8 = 32;
+// ∈, ∉
+pub const MEMBERSHIP: u8 = 33;
+// ⊂, ⊄, ⊆, ⊈
+pub const INCLUSION: u8 = 34;
+// finite: the expression is a set
+pub const FINITE: u8 = 35;
+// α
+pub const UNKNOWN: u8 = 36;
+// P(α × β)
+pub const RELATION: u8 = 37;
+// ℤ
+pub const INTEGER: u8 = 38;
+// forward composition: the next target, and the relation from the last one to it
+pub const FORTH: u8 = 39;
+// backward composition: the next source, and the relation from it to the last one
+pub const BACK: u8 = 40;
+// forward composition: from the first source to the last target
+pub const FORTH_ALL: u8 = 41;
+// backward composition: from the last source to the first target
+pub const BACK_ALL: u8 = 42;
+
+// The rule of an operator, by its number: the script that is played once its parts are walked.
+
+pub fn check_atomic(op: u8) -> u8
+    ensures { λ r. ⌜ r ≡ checkAtomicOf op ⌝ }
+{
+    match op {
+        0..=2 => INTEGERS,
+        3 => BOOLEANS,
+        4..=5 => TRUTH,
+        6..=7 => SUCCESSION,
+        8 => EMPTY_SET,
+        9 => IDENTITY,
+        10 => FIRST_OF,
+        _ => SECOND_OF,
+    }
+}
+
+pub fn check_binary(op: u8) -> u8
+    ensures { λ r. ⌜ r ≡ checkBinaryOf op ⌝ }
+{
+    match op {
+        0 => MAPLET,
+        1..=11 => RELATIONS,
+        12 => DIFFERENCE,
+        13 => CARTESIAN,
+        14 => DIRECT,
+        15 => PARALLEL,
+        16..=17 => DOMAIN_CUT,
+        18..=19 => RANGE_CUT,
+        20 => INTERVAL,
+        21..=24 => ARITHMETIC,
+        25 => APPLICATION,
+        _ => IMAGE,
+    }
+}
+
+pub fn check_unary(op: u8) -> u8
+    ensures { λ r. ⌜ r ≡ checkUnaryOf op ⌝ }
+{
+    match op {
+        0 => CARDINALITY,
+        1..=2 => POWERSET,
+        3..=4 => GENERALIZED,
+        5 => DOMAIN,
+        6 => RANGE,
+        7..=8 => EXTREMUM,
+        9 => CONVERSE,
+        _ => MINUS,
+    }
+}
+
+pub fn check_quantified(op: u8) -> u8
+    ensures { λ r. ⌜ r ≡ checkQuantifiedOf op ⌝ }
+{
+    match op {
+        0..=1 => SET,
+        _ => POWER,
+    }
+}
+
+pub fn check_relational(op: u8) -> u8
+    ensures { λ r. ⌜ r ≡ checkRelationalOf op ⌝ }
+{
+    match op {
+        0..=1 => EQUALITY,
+        2..=5 => ORDER,
+        6..=7 => MEMBERSHIP,
+        _ => INCLUSION,
+    }
+}
+
+// What is done with any number of children: a script before them, a script before each one that gives what it is compared with, and a script after
+// them. `mode` 0: no comparison; 1: each child with the same node; 2: each with a node of its own, which begins where the one before it ended.
+pub struct Plan {
+    pub first: u8,
+    pub link: u8,
+    pub last: u8,
+    pub mode: u8,
+}
+
+pub fn check_associative(op: u8) -> Plan
+    ensures { λ r. ⌜ r ≡ checkAssociativeOf op ⌝ }
+{
+    match op {
+        0..=1 => Plan {
+            first: EMPTY_SET,
+            link: NOTHING,
+            last: NOTHING,
+            mode: 1,
+        },
+        2 => Plan {
+            first: RELATION,
+            link: NOTHING,
+            last: NOTHING,
+            mode: 1,
+        },
+        3 => Plan {
+            first: UNKNOWN,
+            link: FORTH,
+            last: FORTH_ALL,
+            mode: 2,
+        },
+        4 => Plan {
+            first: UNKNOWN,
+            link: BACK,
+            last: BACK_ALL,
+            mode: 2,
+        },
+        _ => Plan {
+            first: INTEGER,
+            link: NOTHING,
+            last: NOTHING,
+            mode: 1,
+        },
+    }
+}
+
+// A script: its first item, the item after its last one, the operand that it gives.
+pub struct Script {
+    pub from: u8,
+    pub until: u8,
+    pub gives: u8,
+}
+
+fn script_at(n: u8) -> Script
+    ensures { λ r. ⌜ r ≡ scriptAt n ⌝ }
+{
+    let i = n as usize * 3;
+    if i < 127 {
+        return Script {
+            from: tables::SCRIPTS[i],
+            until: tables::SCRIPTS[i + 1],
+            gives: tables::SCRIPTS[i + 2],
+        };
+    }
+    Script {
+        from: 0,
+        until: 0,
+        gives: 0,
+    }
+}
+
+pub struct Item {
+    pub kind: u8,
+    pub x: u8,
+    pub y: u8,
+    pub at: u8,
+}
+
+fn item_at(n: u32) -> Item
+    ensures { λ r. ⌜ r ≡ itemAt n ⌝ }
+{
+    let i = n as usize * 4;
+    if i < 705 {
+        return Item {
+            kind: tables::ITEMS[i],
+            x: tables::ITEMS[i + 1],
+            y: tables::ITEMS[i + 2],
+            at: tables::ITEMS[i + 3],
+        };
+    }
+    Item {
+        kind: 0,
+        x: 0,
+        y: 0,
+        at: 0,
+    }
+}
+
+// What a script is played with: the references and places of the parts, the record's place, and the count of nodes as it begins.
+pub struct Parts {
+    pub left: NodeRef,
+    pub right: NodeRef,
+    pub place: Place,
+    pub near: Place,
+    pub far: Place,
+    pub base: u32,
+}
+
+// An operand: 0 where there is none, 1 and 2 the parts, 3 + j the script's own node j.
+fn chosen(code: u8, p: Parts) -> NodeRef
+    ensures { λ r. ⌜ r ≡ chosenOf code p ⌝ }
+{
+    if code == 0 {
+        return NodeRef(0);
+    }
+    if code == 1 {
+        return p.left;
+    }
+    if code == 2 {
+        return p.right;
+    }
+    let base = p.base;
+    if base < 65536 {
+        return NodeRef(base + (code as u32 - 3));
+    }
+    NodeRef(0)
+}
+
+fn place_of(code: u8, p: Parts) -> Place
+    ensures { λ r. ⌜ r ≡ placeOf code p ⌝ }
+{
+    if code == 0 {
+        return p.place;
+    }
+    if code == 1 {
+        return p.near;
+    }
+    p.far
+}
+
+// One item: a node, or a comparison.
+fn perform(work: &mut [u32], output: &mut [u8], size: u32, it: Item, p: Parts, st: State) -> State
+    ensures { λ r. ⌜ mach size r (now (work .exit)) (now (output .exit)) ≡ itemOf it p (mach size st (now (work .entry)) (now (output .entry))) ⌝ }
+{
+    let x = chosen(it.x, p);
+    let y = chosen(it.y, p);
+    if it.kind == 1 {
+        let at = place_of(it.at, p);
+        return expect(work, output, size, x, y, at, st);
+    }
+    make(work, size, it.kind as u32, x.0, y.0, st)
+}
+
+// A byte as a number that can be counted up from.
+fn small(b: u8) -> u32
+    ensures { λ r. ⌜ r ≡ b ⌝ }
+    ensures { λ r. ⌜ r < 256 ⌝ }
+{
+    b as u32
+}
+
+// A script is played.
+pub fn play(work: &mut [u32], output: &mut [u8], size: u32, n: u8, p: Parts, st: State) -> State
+    ensures { λ r. ⌜ mach size r (now (work .exit)) (now (output .exit)) ≡ playOf n p (mach size st (now (work .entry)) (now (output .entry))) ⌝ }
+{
+    let script = script_at(n);
+    let until = small(script.until);
+    let mut v = st;
+    let mut i = small(script.from);
+    while i < until {
+        v = perform(work, output, size, item_at(i), p, v);
+        i += 1;
+    }
+    let gives = chosen(script.gives, p);
+    gave(gives, v)
+}
+
+// The parts of a script's playing, as the walk begins it.
+pub fn played_with(
+    left: NodeRef,
+    near: Place,
+    right: NodeRef,
+    far: Place,
+    place: Place,
+    st: State,
+) -> Parts
+    ensures { λ r. ⌜ r ≡ partsOf (left .0) (near .0) (right .0) (far .0) (place .0) st ⌝ }
+{
+    Parts {
+        left: left,
+        right: right,
+        place: place,
+        near: near,
+        far: far,
+        base: st.nodes,
+    }
+}
