@@ -35,7 +35,7 @@ word-token-requires : tie.Need-word-token-requires
 word-token-requires c κs = search needs
 
 returns-2 : tie.Need-returns-2
-returns-2 c = token-word (names (c .before .before .before .before .before .before .before .before .before .args .table .now)) (c .before .before .before .before .before .before .before .before .before .args .text .now) (c .before .before .before .before .before .before .before .before .before .args .at) (omega (arith, c .before .before .before .before .before .before .if1 .left)) _ (c .before .before .before .before .is-letter .ensures) (c .before .before .before .if2 .taken) _ (c .before .before .word-end .ensures) _ (c .word-token .ensures)
+returns-2 c = let s = c .before .before .before .before .before .before .before .before .before in token-word (names (s .args .table .now)) (s .args .text .now) (s .args .at) (omega (arith, c .before .before .before .before .before .before .if1 .left)) _ (c .before .before .before .before .is-letter .ensures) (c .before .before .before .if2 .taken) _ (c .before .before .word-end .ensures) _ (c .word-token .ensures)
 
 slice-aggregate-starts-with : tie.Need-slice-aggregate-starts-with
 slice-aggregate-starts-with c = search needs
@@ -47,7 +47,7 @@ add-t23 : tie.Need-add-t23
 add-t23 c = search needs
 
 returns-3 : tie.Need-returns-3
-returns-3 c = token-integer (names (c .before .before .before .before .before .before .before .before .before .args .table .now)) (c .before .before .before .before .before .before .before .before .before .args .text .now) (c .before .before .before .before .before .before .before .before .before .args .at) (omega (arith, c .before .before .before .before .before .before .if1 .left)) _ (c .before .before .before .before .is-letter .ensures) (c .before .before .before .if2 .left) _ (c .before .starts-with .ensures) (c .if3 .taken)
+returns-3 c = let s = c .before .before .before .before .before .before .before .before .before in token-integer (names (s .args .table .now)) (s .args .text .now) (s .args .at) (omega (arith, c .before .before .before .before .before .before .if1 .left)) _ (c .before .before .before .before .is-letter .ensures) (c .before .before .before .if2 .left) _ (c .before .starts-with .ensures) (c .if3 .taken)
 
 slice-aggregate-starts-with-2 : tie.Need-slice-aggregate-starts-with-2
 slice-aggregate-starts-with-2 c = search needs
@@ -59,7 +59,7 @@ add-t27 : tie.Need-add-t27
 add-t27 c = search needs
 
 returns-4 : tie.Need-returns-4
-returns-4 c = token-power (names (c .before .before .before .before .before .before .before .before .before .before .before .before .args .table .now)) (c .before .before .before .before .before .before .before .before .before .before .before .before .args .text .now) (c .before .before .before .before .before .before .before .before .before .before .before .before .args .at) (omega (arith, c .before .before .before .before .before .before .before .before .before .if1 .left)) _ (c .before .before .before .before .before .before .before .is-letter .ensures) (c .before .before .before .before .before .before .if2 .left) _ (c .before .before .before .before .starts-with .ensures) (c .before .before .before .if3 .left) _ (c .before .starts-with2 .ensures) (c .if4 .taken)
+returns-4 c = let s = c .before .before .before .before .before .before .before .before .before .before .before .before in token-power (names (s .args .table .now)) (s .args .text .now) (s .args .at) (omega (arith, c .before .before .before .before .before .before .before .before .before .if1 .left)) _ (c .before .before .before .before .before .before .before .is-letter .ensures) (c .before .before .before .before .before .before .if2 .left) _ (c .before .before .before .before .starts-with .ensures) (c .before .before .before .if3 .left) _ (c .before .starts-with2 .ensures) (c .if4 .taken)
 
 slice-aggregate-starts-with-3 : tie.Need-slice-aggregate-starts-with-3
 slice-aggregate-starts-with-3 c = search needs
@@ -71,7 +71,7 @@ add-t31 : tie.Need-add-t31
 add-t31 c = search needs
 
 returns-5 : tie.Need-returns-5
-returns-5 c = token-open (names (c .before .before .before .before .before .before .before .before .before .before .before .before .before .before .before .args .table .now)) (c .before .before .before .before .before .before .before .before .before .before .before .before .before .before .before .args .text .now) (c .before .before .before .before .before .before .before .before .before .before .before .before .before .before .before .args .at) (omega (arith, c .before .before .before .before .before .before .before .before .before .before .before .before .if1 .left)) _ (c .before .before .before .before .before .before .before .before .before .before .is-letter .ensures) (c .before .before .before .before .before .before .before .before .before .if2 .left) _ (c .before .before .before .before .before .before .before .starts-with .ensures) (c .before .before .before .before .before .before .if3 .left) _ (c .before .before .before .before .starts-with2 .ensures) (c .before .before .before .if4 .left) _ (c .before .starts-with3 .ensures) (c .if5 .taken)
+returns-5 c = let s = c .before .before .before .before .before .before .before .before .before .before .before .before .before .before .before in token-open (names (s .args .table .now)) (s .args .text .now) (s .args .at) (omega (arith, c .before .before .before .before .before .before .before .before .before .before .before .before .if1 .left)) _ (c .before .before .before .before .before .before .before .before .before .before .is-letter .ensures) (c .before .before .before .before .before .before .before .before .before .if2 .left) _ (c .before .before .before .before .before .before .before .starts-with .ensures) (c .before .before .before .before .before .before .if3 .left) _ (c .before .before .before .before .starts-with2 .ensures) (c .before .before .before .if4 .left) _ (c .before .starts-with3 .ensures) (c .if5 .taken)
 
 slice-aggregate-starts-with-4 : tie.Need-slice-aggregate-starts-with-4
 slice-aggregate-starts-with-4 c = search needs
@@ -83,7 +83,7 @@ add-t35 : tie.Need-add-t35
 add-t35 c = search needs
 
 returns-6 : tie.Need-returns-6
-returns-6 c = token-close (names (c .before .before .before .before .before .before .before .before .before .before .before .before .before .before .before .before .before .before .args .table .now)) (c .before .before .before .before .before .before .before .before .before .before .before .before .before .before .before .before .before .before .args .text .now) (c .before .before .before .before .before .before .before .before .before .before .before .before .before .before .before .before .before .before .args .at) (omega (arith, c .before .before .before .before .before .before .before .before .before .before .before .before .before .before .before .if1 .left)) _ (c .before .before .before .before .before .before .before .before .before .before .before .before .before .is-letter .ensures) (c .before .before .before .before .before .before .before .before .before .before .before .before .if2 .left) _ (c .before .before .before .before .before .before .before .before .before .before .starts-with .ensures) (c .before .before .before .before .before .before .before .before .before .if3 .left) _ (c .before .before .before .before .before .before .before .starts-with2 .ensures) (c .before .before .before .before .before .before .if4 .left) _ (c .before .before .before .before .starts-with3 .ensures) (c .before .before .before .if5 .left) _ (c .before .starts-with4 .ensures) (c .if6 .taken)
+returns-6 c = let s = c .before .before .before .before .before .before .before .before .before .before .before .before .before .before .before .before .before .before in token-close (names (s .args .table .now)) (s .args .text .now) (s .args .at) (omega (arith, c .before .before .before .before .before .before .before .before .before .before .before .before .before .before .before .if1 .left)) _ (c .before .before .before .before .before .before .before .before .before .before .before .before .before .is-letter .ensures) (c .before .before .before .before .before .before .before .before .before .before .before .before .if2 .left) _ (c .before .before .before .before .before .before .before .before .before .before .starts-with .ensures) (c .before .before .before .before .before .before .before .before .before .if3 .left) _ (c .before .before .before .before .before .before .before .starts-with2 .ensures) (c .before .before .before .before .before .before .if4 .left) _ (c .before .before .before .before .starts-with3 .ensures) (c .before .before .before .if5 .left) _ (c .before .starts-with4 .ensures) (c .if6 .taken)
 
 slice-aggregate-starts-with-5 : tie.Need-slice-aggregate-starts-with-5
 slice-aggregate-starts-with-5 c = search needs
@@ -95,10 +95,10 @@ add-t39 : tie.Need-add-t39
 add-t39 c = search needs
 
 returns-7 : tie.Need-returns-7
-returns-7 c = token-times (names (c .before .before .before .before .before .before .before .before .before .before .before .before .before .before .before .before .before .before .before .before .before .args .table .now)) (c .before .before .before .before .before .before .before .before .before .before .before .before .before .before .before .before .before .before .before .before .before .args .text .now) (c .before .before .before .before .before .before .before .before .before .before .before .before .before .before .before .before .before .before .before .before .before .args .at) (omega (arith, c .before .before .before .before .before .before .before .before .before .before .before .before .before .before .before .before .before .before .if1 .left)) _ (c .before .before .before .before .before .before .before .before .before .before .before .before .before .before .before .before .is-letter .ensures) (c .before .before .before .before .before .before .before .before .before .before .before .before .before .before .before .if2 .left) _ (c .before .before .before .before .before .before .before .before .before .before .before .before .before .starts-with .ensures) (c .before .before .before .before .before .before .before .before .before .before .before .before .if3 .left) _ (c .before .before .before .before .before .before .before .before .before .before .starts-with2 .ensures) (c .before .before .before .before .before .before .before .before .before .if4 .left) _ (c .before .before .before .before .before .before .before .starts-with3 .ensures) (c .before .before .before .before .before .before .if5 .left) _ (c .before .before .before .before .starts-with4 .ensures) (c .before .before .before .if6 .left) _ (c .before .starts-with5 .ensures) (c .if7 .taken)
+returns-7 c = let s = c .before .before .before .before .before .before .before .before .before .before .before .before .before .before .before .before .before .before .before .before .before in token-times (names (s .args .table .now)) (s .args .text .now) (s .args .at) (omega (arith, c .before .before .before .before .before .before .before .before .before .before .before .before .before .before .before .before .before .before .if1 .left)) _ (c .before .before .before .before .before .before .before .before .before .before .before .before .before .before .before .before .is-letter .ensures) (c .before .before .before .before .before .before .before .before .before .before .before .before .before .before .before .if2 .left) _ (c .before .before .before .before .before .before .before .before .before .before .before .before .before .starts-with .ensures) (c .before .before .before .before .before .before .before .before .before .before .before .before .if3 .left) _ (c .before .before .before .before .before .before .before .before .before .before .starts-with2 .ensures) (c .before .before .before .before .before .before .before .before .before .if4 .left) _ (c .before .before .before .before .before .before .before .starts-with3 .ensures) (c .before .before .before .before .before .before .if5 .left) _ (c .before .before .before .before .starts-with4 .ensures) (c .before .before .before .if6 .left) _ (c .before .starts-with5 .ensures) (c .if7 .taken)
 
 returns-8 : tie.Need-returns-8
-returns-8 c = token-wrong (names (c .before .before .before .before .before .before .before .before .before .before .before .before .before .before .before .before .before .before .before .before .before .args .table .now)) (c .before .before .before .before .before .before .before .before .before .before .before .before .before .before .before .before .before .before .before .before .before .args .text .now) (c .before .before .before .before .before .before .before .before .before .before .before .before .before .before .before .before .before .before .before .before .before .args .at) (omega (arith, c .before .before .before .before .before .before .before .before .before .before .before .before .before .before .before .before .before .before .if1 .left)) _ (c .before .before .before .before .before .before .before .before .before .before .before .before .before .before .before .before .is-letter .ensures) (c .before .before .before .before .before .before .before .before .before .before .before .before .before .before .before .if2 .left) _ (c .before .before .before .before .before .before .before .before .before .before .before .before .before .starts-with .ensures) (c .before .before .before .before .before .before .before .before .before .before .before .before .if3 .left) _ (c .before .before .before .before .before .before .before .before .before .before .starts-with2 .ensures) (c .before .before .before .before .before .before .before .before .before .if4 .left) _ (c .before .before .before .before .before .before .before .starts-with3 .ensures) (c .before .before .before .before .before .before .if5 .left) _ (c .before .before .before .before .starts-with4 .ensures) (c .before .before .before .if6 .left) _ (c .before .starts-with5 .ensures) (c .if7 .left)
+returns-8 c = let s = c .before .before .before .before .before .before .before .before .before .before .before .before .before .before .before .before .before .before .before .before .before in token-wrong (names (s .args .table .now)) (s .args .text .now) (s .args .at) (omega (arith, c .before .before .before .before .before .before .before .before .before .before .before .before .before .before .before .before .before .before .if1 .left)) _ (c .before .before .before .before .before .before .before .before .before .before .before .before .before .before .before .before .is-letter .ensures) (c .before .before .before .before .before .before .before .before .before .before .before .before .before .before .before .if2 .left) _ (c .before .before .before .before .before .before .before .before .before .before .before .before .before .starts-with .ensures) (c .before .before .before .before .before .before .before .before .before .before .before .before .if3 .left) _ (c .before .before .before .before .before .before .before .before .before .before .starts-with2 .ensures) (c .before .before .before .before .before .before .before .before .before .if4 .left) _ (c .before .before .before .before .before .before .before .starts-with3 .ensures) (c .before .before .before .before .before .before .if5 .left) _ (c .before .before .before .before .starts-with4 .ensures) (c .before .before .before .if6 .left) _ (c .before .starts-with5 .ensures) (c .if7 .left)
 
 pub token-at-spec : {M : Type 1} → statement M
 token-at-spec =

@@ -14,7 +14,7 @@ table-is-good-requires : tie.Need-table-is-good-requires
 table-is-good-requires c κs = search needs
 
 returns : tie.Need-returns
-returns c = read-table (c .before .before .before .before .before .args .text .now) (c .before .before .before .before .before .args .table .now) (c .before .before .before .before .before .args .page .now) _ (c .before .table-is-good .ensures) (c .if1 .taken)
+returns c = let s = c .before .before .before .before .before in read-table (s .args .text .now) (s .args .table .now) (s .args .page .now) _ (c .before .table-is-good .ensures) (c .if1 .taken)
 
 new-requires : tie.Need-new-requires
 new-requires c κs = search needs
@@ -32,10 +32,10 @@ enum-known-e : tie.Need-enum-known-e
 enum-known-e c = search needs
 
 returns-2 : tie.Need-returns-2
-returns-2 c = read-left-over (c .before .before .before .before .before .before .before .before .before .before .before .args .text .now) (c .before .before .before .before .before .before .before .before .before .before .before .args .table .now) (c .before .before .before .before .before .before .before .before .before .before .before .args .page .now) _ (c .before .before .before .before .before .before .before .table-is-good .ensures) (c .before .before .before .before .before .before .if1 .left) _ _ (c .before .before .before .before .before .new .ensures) _ (c .before .before .before .before .scan-product .ensures) _ _ _ (c .before .before .e .given .1) (c .if2 .taken)
+returns-2 c = let s = c .before .before .before .before .before .before .before .before .before .before .before in read-left-over (s .args .text .now) (s .args .table .now) (s .args .page .now) _ (c .before .before .before .before .before .before .before .table-is-good .ensures) (c .before .before .before .before .before .before .if1 .left) _ _ (c .before .before .before .before .before .new .ensures) _ (c .before .before .before .before .scan-product .ensures) _ _ _ (c .before .before .e .given .1) (c .if2 .taken)
 
 returns-3 : tie.Need-returns-3
-returns-3 c = read-deep (c .before .before .before .before .before .before .before .before .before .before .before .before .args .text .now) (c .before .before .before .before .before .before .before .before .before .before .before .before .args .table .now) (c .before .before .before .before .before .before .before .before .before .before .before .before .args .page .now) _ (c .before .before .before .before .before .before .before .before .table-is-good .ensures) (c .before .before .before .before .before .before .before .if1 .left) _ _ (c .before .before .before .before .before .before .new .ensures) _ (c .before .before .before .before .before .scan-product .ensures) _ _ _ (c .before .before .before .e .given .1) (c .before .if2 .left) (omega (arith, c .if3 .taken))
+returns-3 c = let s = c .before .before .before .before .before .before .before .before .before .before .before .before in read-deep (s .args .text .now) (s .args .table .now) (s .args .page .now) _ (c .before .before .before .before .before .before .before .before .table-is-good .ensures) (c .before .before .before .before .before .before .before .if1 .left) _ _ (c .before .before .before .before .before .before .new .ensures) _ (c .before .before .before .before .before .scan-product .ensures) _ _ _ (c .before .before .before .e .given .1) (c .before .if2 .left) (omega (arith, c .if3 .taken))
 
 enum-told : tie.Need-enum-told
 enum-told c = search needs
@@ -44,19 +44,19 @@ enum-told-2 : tie.Need-enum-told-2
 enum-told-2 c = search needs
 
 lay-product-requires : tie.Need-lay-product-requires
-lay-product-requires c κs = read-ready (c .before .before .before .before .before .before .before .before .before .before .before .before .before .before .before .args .text .now) (c .before .before .before .before .before .before .before .before .before .before .before .before .before .before .before .args .table .now) (c .before .before .before .before .before .before .before .before .before .before .before .before .before .before .before .args .page .now) _ (c .before .before .before .before .before .before .before .before .before .before .before .table-is-good .ensures) (c .before .before .before .before .before .before .before .before .before .before .if1 .left) _ _ (c .before .before .before .before .before .before .before .before .before .new .ensures) _ (c .before .before .before .before .before .before .before .before .scan-product .ensures) _ _ _ (c .before .before .before .before .before .before .e .given .1) (c .before .before .before .before .if2 .left) (omega (arith, c .before .before .before .if3 .left)) _ (c .before .enum-told2 .given .1)
+lay-product-requires c κs = let s = c .before .before .before .before .before .before .before .before .before .before .before .before .before .before .before in read-ready (s .args .text .now) (s .args .table .now) (s .args .page .now) _ (c .before .before .before .before .before .before .before .before .before .before .before .table-is-good .ensures) (c .before .before .before .before .before .before .before .before .before .before .if1 .left) _ _ (c .before .before .before .before .before .before .before .before .before .new .ensures) _ (c .before .before .before .before .before .before .before .before .scan-product .ensures) _ _ _ (c .before .before .before .before .before .before .e .given .1) (c .before .before .before .before .if2 .left) (omega (arith, c .before .before .before .if3 .left)) _ (c .before .enum-told2 .given .1)
 
 returns-4 : tie.Need-returns-4
-returns-4 c = read-stop (c .before .before .before .before .before .before .before .before .before .before .before .args .text .now) (c .before .before .before .before .before .before .before .before .before .before .before .args .table .now) (c .before .before .before .before .before .before .before .before .before .before .before .args .page .now) _ (c .before .before .before .before .before .before .before .table-is-good .ensures) (c .before .before .before .before .before .before .if1 .left) _ _ (c .before .before .before .before .before .new .ensures) _ (c .before .before .before .before .scan-product .ensures) _ _ (c .before .before .f .given .1) (c .refusal .ensures)
+returns-4 c = let s = c .before .before .before .before .before .before .before .before .before .before .before in read-stop (s .args .text .now) (s .args .table .now) (s .args .page .now) _ (c .before .before .before .before .before .before .before .table-is-good .ensures) (c .before .before .before .before .before .before .if1 .left) _ _ (c .before .before .before .before .before .new .ensures) _ (c .before .before .before .before .scan-product .ensures) _ _ (c .before .before .f .given .1) (c .refusal .ensures)
 
 returns-5 : tie.Need-returns-5
-returns-5 c = read-no-room (c .before .before .before .before .before .before .before .before .before .before .before .before .before .before .args .text .now) (c .before .before .before .before .before .before .before .before .before .before .before .before .before .before .args .table .now) (c .before .before .before .before .before .before .before .before .before .before .before .before .before .before .args .page .now) _ (c .before .before .before .before .before .before .before .before .before .before .table-is-good .ensures) (c .before .before .before .before .before .before .before .before .before .if1 .left) _ _ (c .before .before .before .before .before .before .before .before .new .ensures) _ (c .before .before .before .before .before .before .before .scan-product .ensures) _ _ _ (c .before .before .before .before .before .e .given .1) (c .before .before .before .if2 .left) (omega (arith, c .before .before .if3 .left)) (c .enum-told .given .1)
+returns-5 c = let s = c .before .before .before .before .before .before .before .before .before .before .before .before .before .before in read-no-room (s .args .text .now) (s .args .table .now) (s .args .page .now) _ (c .before .before .before .before .before .before .before .before .before .before .table-is-good .ensures) (c .before .before .before .before .before .before .before .before .before .if1 .left) _ _ (c .before .before .before .before .before .before .before .before .new .ensures) _ (c .before .before .before .before .before .before .before .scan-product .ensures) _ _ _ (c .before .before .before .before .before .e .given .1) (c .before .before .before .if2 .left) (omega (arith, c .before .before .if3 .left)) (c .enum-told .given .1)
 
 same-length : tie.Need-same-length
 same-length c = search needs
 
 returns-6 : tie.Need-returns-6
-returns-6 c = read-done (c .before .before .before .before .before .before .before .before .before .before .before .before .before .before .before .before .before .before .args .text .now) (c .before .before .before .before .before .before .before .before .before .before .before .before .before .before .before .before .before .before .args .table .now) (c .before .before .before .before .before .before .before .before .before .before .before .before .before .before .before .before .before .before .args .page .now) _ (c .before .before .before .before .before .before .before .before .before .before .before .before .before .before .table-is-good .ensures) (c .before .before .before .before .before .before .before .before .before .before .before .before .before .if1 .left) _ _ (c .before .before .before .before .before .before .before .before .before .before .before .before .new .ensures) _ (c .before .before .before .before .before .before .before .before .before .before .before .scan-product .ensures) _ _ _ (c .before .before .before .before .before .before .before .before .before .e .given .1) (c .before .before .before .before .before .before .before .if2 .left) (omega (arith, c .before .before .before .before .before .before .if3 .left)) _ (c .before .before .before .before .enum-told2 .given .1) _ _ _ (c .before .before .lay-product .ensures)
+returns-6 c = let s = c .before .before .before .before .before .before .before .before .before .before .before .before .before .before .before .before .before .before in read-done (s .args .text .now) (s .args .table .now) (s .args .page .now) _ (c .before .before .before .before .before .before .before .before .before .before .before .before .before .before .table-is-good .ensures) (c .before .before .before .before .before .before .before .before .before .before .before .before .before .if1 .left) _ _ (c .before .before .before .before .before .before .before .before .before .before .before .before .new .ensures) _ (c .before .before .before .before .before .before .before .before .before .before .before .scan-product .ensures) _ _ _ (c .before .before .before .before .before .before .before .before .before .e .given .1) (c .before .before .before .before .before .before .before .if2 .left) (omega (arith, c .before .before .before .before .before .before .if3 .left)) _ (c .before .before .before .before .enum-told2 .given .1) _ _ _ (c .before .before .lay-product .ensures)
 
 pub read-spec : {M : Type 1} → statement M
 read-spec =

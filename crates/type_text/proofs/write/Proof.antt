@@ -14,10 +14,10 @@ table-is-good-requires : tie.Need-table-is-good-requires
 table-is-good-requires c κs = search needs
 
 returns : tie.Need-returns
-returns c = write-table (c .before .before .before .before .before .args .bytes .now) (c .before .before .before .before .before .args .table .now) (c .before .before .before .before .before .args .page .now) (c .before .before .before .before .before .args .position) _ (c .before .table-is-good .ensures) (c .if1 .taken)
+returns c = let s = c .before .before .before .before .before in write-table (s .args .bytes .now) (s .args .table .now) (s .args .page .now) (s .args .position) _ (c .before .table-is-good .ensures) (c .if1 .taken)
 
 returns-2 : tie.Need-returns-2
-returns-2 c = write-position (c .before .before .before .before .before .before .args .bytes .now) (c .before .before .before .before .before .before .args .table .now) (c .before .before .before .before .before .before .args .page .now) (c .before .before .before .before .before .before .args .position) _ (c .before .before .table-is-good .ensures) (c .before .if1 .left) (search needs)
+returns-2 c = let s = c .before .before .before .before .before .before in write-position (s .args .bytes .now) (s .args .table .now) (s .args .page .now) (s .args .position) _ (c .before .before .table-is-good .ensures) (c .before .if1 .left) (search needs)
 
 count-names-requires : tie.Need-count-names-requires
 count-names-requires c κs = search needs
@@ -38,7 +38,7 @@ enum-known-e : tie.Need-enum-known-e
 enum-known-e c = search needs
 
 returns-3 : tie.Need-returns-3
-returns-3 c = write-left-over (c .before .before .before .before .before .before .before .before .before .before .before .before .args .bytes .now) (c .before .before .before .before .before .before .before .before .before .before .before .before .args .table .now) (c .before .before .before .before .before .before .before .before .before .before .before .before .args .page .now) (c .before .before .before .before .before .before .before .before .before .before .before .before .args .position) _ (c .before .before .before .before .before .before .before .before .table-is-good .ensures) (c .before .before .before .before .before .before .before .if1 .left) (omega (arith, c .before .before .before .before .before .before .if2 .left)) _ (c .before .before .before .before .before .count-names .ensures) _ (c .before .before .before .before .measure .ensures) _ _ (c .before .before .e .given .1) (c .if3 .taken)
+returns-3 c = let s = c .before .before .before .before .before .before .before .before .before .before .before .before in write-left-over (s .args .bytes .now) (s .args .table .now) (s .args .page .now) (s .args .position) _ (c .before .before .before .before .before .before .before .before .table-is-good .ensures) (c .before .before .before .before .before .before .before .if1 .left) (omega (arith, c .before .before .before .before .before .before .if2 .left)) _ (c .before .before .before .before .before .count-names .ensures) _ (c .before .before .before .before .measure .ensures) _ _ (c .before .before .e .given .1) (c .if3 .taken)
 
 enum-told : tie.Need-enum-told
 enum-told c = search needs
@@ -47,19 +47,19 @@ enum-told-2 : tie.Need-enum-told-2
 enum-told-2 c = search needs
 
 put-at-requires : tie.Need-put-at-requires
-put-at-requires c κs = write-ready (c .before .before .before .before .before .before .before .before .before .before .before .before .before .before .before .args .bytes .now) (c .before .before .before .before .before .before .before .before .before .before .before .before .before .before .before .args .table .now) (c .before .before .before .before .before .before .before .before .before .before .before .before .before .before .before .args .page .now) (c .before .before .before .before .before .before .before .before .before .before .before .before .before .before .before .args .position) _ (c .before .before .before .before .before .before .before .before .before .before .before .table-is-good .ensures) (c .before .before .before .before .before .before .before .before .before .before .if1 .left) (omega (arith, c .before .before .before .before .before .before .before .before .before .if2 .left)) _ (c .before .before .before .before .before .before .before .before .count-names .ensures) _ (c .before .before .before .before .before .before .before .measure .ensures) _ _ (c .before .before .before .before .before .e .given .1) (c .before .before .before .if3 .left) _ (c .before .enum-told2 .given .1)
+put-at-requires c κs = let s = c .before .before .before .before .before .before .before .before .before .before .before .before .before .before .before in write-ready (s .args .bytes .now) (s .args .table .now) (s .args .page .now) (s .args .position) _ (c .before .before .before .before .before .before .before .before .before .before .before .table-is-good .ensures) (c .before .before .before .before .before .before .before .before .before .before .if1 .left) (omega (arith, c .before .before .before .before .before .before .before .before .before .if2 .left)) _ (c .before .before .before .before .before .before .before .before .count-names .ensures) _ (c .before .before .before .before .before .before .before .measure .ensures) _ _ (c .before .before .before .before .before .e .given .1) (c .before .before .before .if3 .left) _ (c .before .enum-told2 .given .1)
 
 returns-4 : tie.Need-returns-4
-returns-4 c = write-fault (c .before .before .before .before .before .before .before .before .before .before .before .before .args .bytes .now) (c .before .before .before .before .before .before .before .before .before .before .before .before .args .table .now) (c .before .before .before .before .before .before .before .before .before .before .before .before .args .page .now) (c .before .before .before .before .before .before .before .before .before .before .before .before .args .position) _ (c .before .before .before .before .before .before .before .before .table-is-good .ensures) (c .before .before .before .before .before .before .before .if1 .left) (omega (arith, c .before .before .before .before .before .before .if2 .left)) _ (c .before .before .before .before .before .count-names .ensures) _ (c .before .before .before .before .measure .ensures) _ _ (c .before .before .f .given .1) (c .refusal .ensures)
+returns-4 c = let s = c .before .before .before .before .before .before .before .before .before .before .before .before in write-fault (s .args .bytes .now) (s .args .table .now) (s .args .page .now) (s .args .position) _ (c .before .before .before .before .before .before .before .before .table-is-good .ensures) (c .before .before .before .before .before .before .before .if1 .left) (omega (arith, c .before .before .before .before .before .before .if2 .left)) _ (c .before .before .before .before .before .count-names .ensures) _ (c .before .before .before .before .measure .ensures) _ _ (c .before .before .f .given .1) (c .refusal .ensures)
 
 returns-5 : tie.Need-returns-5
-returns-5 c = write-no-room (c .before .before .before .before .before .before .before .before .before .before .before .before .before .before .args .bytes .now) (c .before .before .before .before .before .before .before .before .before .before .before .before .before .before .args .table .now) (c .before .before .before .before .before .before .before .before .before .before .before .before .before .before .args .page .now) (c .before .before .before .before .before .before .before .before .before .before .before .before .before .before .args .position) _ (c .before .before .before .before .before .before .before .before .before .before .table-is-good .ensures) (c .before .before .before .before .before .before .before .before .before .if1 .left) (omega (arith, c .before .before .before .before .before .before .before .before .if2 .left)) _ (c .before .before .before .before .before .before .before .count-names .ensures) _ (c .before .before .before .before .before .before .measure .ensures) _ _ (c .before .before .before .before .e .given .1) (c .before .before .if3 .left) (c .enum-told .given .1)
+returns-5 c = let s = c .before .before .before .before .before .before .before .before .before .before .before .before .before .before in write-no-room (s .args .bytes .now) (s .args .table .now) (s .args .page .now) (s .args .position) _ (c .before .before .before .before .before .before .before .before .before .before .table-is-good .ensures) (c .before .before .before .before .before .before .before .before .before .if1 .left) (omega (arith, c .before .before .before .before .before .before .before .before .if2 .left)) _ (c .before .before .before .before .before .before .before .count-names .ensures) _ (c .before .before .before .before .before .before .measure .ensures) _ _ (c .before .before .before .before .e .given .1) (c .before .before .if3 .left) (c .enum-told .given .1)
 
 same-length : tie.Need-same-length
 same-length c = search needs
 
 returns-6 : tie.Need-returns-6
-returns-6 c = write-done (c .before .before .before .before .before .before .before .before .before .before .before .before .before .before .before .before .before .before .args .bytes .now) (c .before .before .before .before .before .before .before .before .before .before .before .before .before .before .before .before .before .before .args .table .now) (c .before .before .before .before .before .before .before .before .before .before .before .before .before .before .before .before .before .before .args .page .now) (c .before .before .before .before .before .before .before .before .before .before .before .before .before .before .before .before .before .before .args .position) _ (c .before .before .before .before .before .before .before .before .before .before .before .before .before .before .table-is-good .ensures) (c .before .before .before .before .before .before .before .before .before .before .before .before .before .if1 .left) (omega (arith, c .before .before .before .before .before .before .before .before .before .before .before .before .if2 .left)) _ (c .before .before .before .before .before .before .before .before .before .before .before .count-names .ensures) _ (c .before .before .before .before .before .before .before .before .before .before .measure .ensures) _ _ (c .before .before .before .before .before .before .before .before .e .given .1) (c .before .before .before .before .before .before .if3 .left) _ (c .before .before .before .before .enum-told2 .given .1) _ _ _ (c .before .before .put-at .ensures)
+returns-6 c = let s = c .before .before .before .before .before .before .before .before .before .before .before .before .before .before .before .before .before .before in write-done (s .args .bytes .now) (s .args .table .now) (s .args .page .now) (s .args .position) _ (c .before .before .before .before .before .before .before .before .before .before .before .before .before .before .table-is-good .ensures) (c .before .before .before .before .before .before .before .before .before .before .before .before .before .if1 .left) (omega (arith, c .before .before .before .before .before .before .before .before .before .before .before .before .if2 .left)) _ (c .before .before .before .before .before .before .before .before .before .before .before .count-names .ensures) _ (c .before .before .before .before .before .before .before .before .before .before .measure .ensures) _ _ (c .before .before .before .before .before .before .before .before .e .given .1) (c .before .before .before .before .before .before .if3 .left) _ (c .before .before .before .before .enum-told2 .given .1) _ _ _ (c .before .before .put-at .ensures)
 
 pub write-spec : {M : Type 1} → statement M
 write-spec =

@@ -115,7 +115,7 @@ lay-operand-enum-known-a : (t : ℕ) → lay-operand-lts.Need-enum-known-a (lay-
 lay-operand-enum-known-a t c = search needs
 
 lay-operand-lay-atom-requires : (t : ℕ) → lay-operand-lts.Need-lay-atom-requires (lay-operand-env t) (lay-operand-at t) lay-operand.Post
-lay-operand-lay-atom-requires t c κs = (lay-leaf-fits (c .before .before .before .before .before .before .before .before .args .c .left) (names (c .before .before .before .before .before .before .before .before .args .table .now)) (c .before .before .before .before .before .before .before .before .args .text .now) (c .before .before .before .before .before .before .before .before .args .c .at) _ (c .before .before .before .before .token-at .ensures) (c .before .before .before .before .before .before .before .before .args .page .now) _ _ (c .before .before .a .given .1) (c .before .before .before .before .before .before .before .before .pre .1), leaf-small (c .before .before .before .before .before .before .before .before .args .table .now) (c .before .before .before .before .before .before .before .before .args .text .now) (c .before .before .before .before .before .before .before .before .args .c .at) _ (c .before .before .before .before .token-at .ensures) _ _ (c .before .before .a .given .1))
+lay-operand-lay-atom-requires t c κs = let s = c .before .before .before .before .before .before .before .before in (lay-leaf-fits (s .args .c .left) (names (s .args .table .now)) (s .args .text .now) (s .args .c .at) _ (c .before .before .before .before .token-at .ensures) (s .args .page .now) _ _ (c .before .before .a .given .1) (s .pre .1), leaf-small (s .args .table .now) (s .args .text .now) (s .args .c .at) _ (c .before .before .before .before .token-at .ensures) _ _ (c .before .before .a .given .1))
 
 lay-operand-enum-known-q : (t : ℕ) → lay-operand-lts.Need-enum-known-q (lay-operand-env t) (lay-operand-at t) lay-operand.Post
 lay-operand-enum-known-q t c = search needs
@@ -124,28 +124,28 @@ lay-operand-slice-aggregate-copy : (t : ℕ) → lay-operand-lts.Need-slice-aggr
 lay-operand-slice-aggregate-copy t c = search needs
 
 lay-operand-copy-requires : (t : ℕ) → lay-operand-lts.Need-copy-requires (lay-operand-env t) (lay-operand-at t) lay-operand.Post
-lay-operand-copy-requires t c κs = lay-power-fits (c .before .before .before .before .before .before .before .before .before .args .c .left) (names (c .before .before .before .before .before .before .before .before .before .args .table .now)) (c .before .before .before .before .before .before .before .before .before .args .text .now) (c .before .before .before .before .before .before .before .before .before .args .c .at) _ (c .before .before .before .before .before .token-at .ensures) (c .before .before .before .before .before .before .before .before .before .args .page .now) _ (c .before .before .before .q .given .1) (c .before .before .before .before .before .before .before .before .before .pre .1)
+lay-operand-copy-requires t c κs = let s = c .before .before .before .before .before .before .before .before .before in lay-power-fits (s .args .c .left) (names (s .args .table .now)) (s .args .text .now) (s .args .c .at) _ (c .before .before .before .before .before .token-at .ensures) (s .args .page .now) _ (c .before .before .before .q .given .1) (s .pre .1)
 
 lay-operand-sub-t26 : (t : ℕ) → lay-operand-lts.Need-sub-t26 (lay-operand-env t) (lay-operand-at t) lay-operand.Post
-lay-operand-sub-t26 t c = lay-deep (c .before .before .before .before .before .before .before .before .before .before .before .before .args .c .left) (names (c .before .before .before .before .before .before .before .before .before .before .before .before .args .table .now)) (c .before .before .before .before .before .before .before .before .before .before .before .before .args .text .now) (c .before .before .before .before .before .before .before .before .before .before .before .before .args .c .at) _ _ (c .before .before .before .before .before .before .before .before .before .before .before .before .pre .1)
+lay-operand-sub-t26 t c = let s = c .before .before .before .before .before .before .before .before .before .before .before .before in lay-deep (s .args .c .left) (names (s .args .table .now)) (s .args .text .now) (s .args .c .at) _ _ (s .pre .1)
 
 lay-operand-lay-product-at-requires : (t : ℕ) → lay-operand-lts.Need-lay-product-at-requires (lay-operand-env t) (lay-operand-at t) lay-operand.Post
-lay-operand-lay-product-at-requires t c κs = (omega (arith, c .before .before .before .before .before .before .before .before .before .before .before .before .before .pre .0, lay-deep (c .before .before .before .before .before .before .before .before .before .before .before .before .before .args .c .left) (names (c .before .before .before .before .before .before .before .before .before .before .before .before .before .args .table .now)) (c .before .before .before .before .before .before .before .before .before .before .before .before .before .args .text .now) (c .before .before .before .before .before .before .before .before .before .before .before .before .before .args .c .at) _ _ (c .before .before .before .before .before .before .before .before .before .before .before .before .before .pre .1)), lay-power-ready (c .before .before .before .before .before .before .before .before .before .before .before .before .before .args .c .left) (names (c .before .before .before .before .before .before .before .before .before .before .before .before .before .args .table .now)) (c .before .before .before .before .before .before .before .before .before .before .before .before .before .args .text .now) (c .before .before .before .before .before .before .before .before .before .before .before .before .before .args .c .at) _ (c .before .before .before .before .before .before .before .before .before .token-at .ensures) (c .before .before .before .before .before .before .before .before .before .before .before .before .before .args .page .now) _ (c .before .before .before .before .before .before .before .q .given .1) (c .before .before .before .before .before .before .before .before .before .before .before .before .before .pre .1) _ _ (c .before .before .before .copy .ensures))
+lay-operand-lay-product-at-requires t c κs = let s = c .before .before .before .before .before .before .before .before .before .before .before .before .before in (omega (arith, s .pre .0, lay-deep (s .args .c .left) (names (s .args .table .now)) (s .args .text .now) (s .args .c .at) _ _ (s .pre .1)), lay-power-ready (s .args .c .left) (names (s .args .table .now)) (s .args .text .now) (s .args .c .at) _ (c .before .before .before .before .before .before .before .before .before .token-at .ensures) (s .args .page .now) _ (c .before .before .before .before .before .before .before .q .given .1) (s .pre .1) _ _ (c .before .before .before .copy .ensures))
 
 lay-operand-after-close-requires : (t : ℕ) → lay-operand-lts.Need-after-close-requires (lay-operand-env t) (lay-operand-at t) lay-operand.Post
 lay-operand-after-close-requires t c κs = search needs
 
 lay-operand-add-t30 : (t : ℕ) → lay-operand-lts.Need-add-t30 (lay-operand-env t) (lay-operand-at t) lay-operand.Post
-lay-operand-add-t30 t c = omega (arith, c .before .before .before .before .before .before .before .before .before .before .before .before .before .before .before .before .before .before .good .1 .1 .1 .0, lay-power-sum (c .before .before .before .before .before .before .before .before .before .before .before .before .before .before .before .before .before .before .args .c .left) (names (c .before .before .before .before .before .before .before .before .before .before .before .before .before .before .before .before .before .before .args .table .now)) (c .before .before .before .before .before .before .before .before .before .before .before .before .before .before .before .before .before .before .args .text .now) (c .before .before .before .before .before .before .before .before .before .before .before .before .before .before .before .before .before .before .args .c .at) _ (c .before .before .before .before .before .before .before .before .before .before .before .before .before .before .token-at .ensures) (c .before .before .before .before .before .before .before .before .before .before .before .before .before .before .before .before .before .before .args .page .now) _ (c .before .before .before .before .before .before .before .before .before .before .before .before .q .given .1) (c .before .before .before .before .before .before .before .before .before .before .before .before .before .before .before .before .before .before .pre .1) _ _ _ _ _ (c .before .before .before .before .before .before .before .before .copy .ensures) (c .before .before .before .before .lay-product-at .ensures))
+lay-operand-add-t30 t c = let s = c .before .before .before .before .before .before .before .before .before .before .before .before .before .before .before .before .before .before in omega (arith, s .good .1 .1 .1 .0, lay-power-sum (s .args .c .left) (names (s .args .table .now)) (s .args .text .now) (s .args .c .at) _ (c .before .before .before .before .before .before .before .before .before .before .before .before .before .before .token-at .ensures) (s .args .page .now) _ (c .before .before .before .before .before .before .before .before .before .before .before .before .q .given .1) (s .pre .1) _ _ _ _ _ (c .before .before .before .before .before .before .before .before .copy .ensures) (c .before .before .before .before .lay-product-at .ensures))
 
 lay-operand-enum-known-q-2 : (t : ℕ) → lay-operand-lts.Need-enum-known-q-2 (lay-operand-env t) (lay-operand-at t) lay-operand.Post
 lay-operand-enum-known-q-2 t c = search needs
 
 lay-operand-sub-t31 : (t : ℕ) → lay-operand-lts.Need-sub-t31 (lay-operand-env t) (lay-operand-at t) lay-operand.Post
-lay-operand-sub-t31 t c = lay-deep (c .before .before .before .before .before .before .before .args .c .left) (names (c .before .before .before .before .before .before .before .args .table .now)) (c .before .before .before .before .before .before .before .args .text .now) (c .before .before .before .before .before .before .before .args .c .at) _ _ (c .before .before .before .before .before .before .before .pre .1)
+lay-operand-sub-t31 t c = let s = c .before .before .before .before .before .before .before in lay-deep (s .args .c .left) (names (s .args .table .now)) (s .args .text .now) (s .args .c .at) _ _ (s .pre .1)
 
 lay-operand-lay-product-at-requires-2 : (t : ℕ) → lay-operand-lts.Need-lay-product-at-requires-2 (lay-operand-env t) (lay-operand-at t) lay-operand.Post
-lay-operand-lay-product-at-requires-2 t c κs = (omega (arith, c .before .before .before .before .before .before .before .before .pre .0, lay-deep (c .before .before .before .before .before .before .before .before .args .c .left) (names (c .before .before .before .before .before .before .before .before .args .table .now)) (c .before .before .before .before .before .before .before .before .args .text .now) (c .before .before .before .before .before .before .before .before .args .c .at) _ _ (c .before .before .before .before .before .before .before .before .pre .1)), lay-open-ready (c .before .before .before .before .before .before .before .before .args .c .left) (names (c .before .before .before .before .before .before .before .before .args .table .now)) (c .before .before .before .before .before .before .before .before .args .text .now) (c .before .before .before .before .before .before .before .before .args .c .at) _ (c .before .before .before .before .token-at .ensures) (c .before .before .before .before .before .before .before .before .args .page .now) _ (c .before .before .q2 .given .1) (c .before .before .before .before .before .before .before .before .pre .1))
+lay-operand-lay-product-at-requires-2 t c κs = let s = c .before .before .before .before .before .before .before .before in (omega (arith, s .pre .0, lay-deep (s .args .c .left) (names (s .args .table .now)) (s .args .text .now) (s .args .c .at) _ _ (s .pre .1)), lay-open-ready (s .args .c .left) (names (s .args .table .now)) (s .args .text .now) (s .args .c .at) _ (c .before .before .before .before .token-at .ensures) (s .args .page .now) _ (c .before .before .q2 .given .1) (s .pre .1))
 
 lay-operand-after-close-requires-2 : (t : ℕ) → lay-operand-lts.Need-after-close-requires-2 (lay-operand-env t) (lay-operand-at t) lay-operand.Post
 lay-operand-after-close-requires-2 t c κs = search needs
@@ -154,22 +154,22 @@ lay-operand-same-length : (t : ℕ) → lay-operand-lts.Need-same-length (lay-op
 lay-operand-same-length t c = search needs
 
 lay-operand-returns : (t : ℕ) → lay-operand-lts.Need-returns (lay-operand-env t) (lay-operand-at t) lay-operand.Post
-lay-operand-returns t c = lay-leaf-end (c .before .before .before .before .before .before .before .before .before .before .before .args .c .left) (names (c .before .before .before .before .before .before .before .before .before .before .before .args .table .now)) (c .before .before .before .before .before .before .before .before .before .before .before .args .text .now) (c .before .before .before .before .before .before .before .before .before .before .before .args .c .at) _ (c .before .before .before .before .before .before .before .token-at .ensures) (c .before .before .before .before .before .before .before .before .before .before .before .args .page .now) _ _ (c .before .before .before .before .before .a .given .1) _ _ (c .before .before .lay-atom .ensures)
+lay-operand-returns t c = let s = c .before .before .before .before .before .before .before .before .before .before .before in lay-leaf-end (s .args .c .left) (names (s .args .table .now)) (s .args .text .now) (s .args .c .at) _ (c .before .before .before .before .before .before .before .token-at .ensures) (s .args .page .now) _ _ (c .before .before .before .before .before .a .given .1) _ _ (c .before .before .lay-atom .ensures)
 
 lay-operand-same-length-2 : (t : ℕ) → lay-operand-lts.Need-same-length-2 (lay-operand-env t) (lay-operand-at t) lay-operand.Post
 lay-operand-same-length-2 t c = search needs
 
 lay-operand-returns-2 : (t : ℕ) → lay-operand-lts.Need-returns-2 (lay-operand-env t) (lay-operand-at t) lay-operand.Post
-lay-operand-returns-2 t c = lay-power-end (c .before .before .before .before .before .before .before .before .before .before .before .before .before .before .before .before .before .before .args .c .left) (names (c .before .before .before .before .before .before .before .before .before .before .before .before .before .before .before .before .before .before .args .table .now)) (c .before .before .before .before .before .before .before .before .before .before .before .before .before .before .before .before .before .before .args .text .now) (c .before .before .before .before .before .before .before .before .before .before .before .before .before .before .before .before .before .before .args .c .at) _ (c .before .before .before .before .before .before .before .before .before .before .before .before .before .before .token-at .ensures) (c .before .before .before .before .before .before .before .before .before .before .before .before .before .before .before .before .before .before .args .page .now) _ (c .before .before .before .before .before .before .before .before .before .before .before .before .q .given .1) _ _ _ _ _ _ (c .before .before .before .before .before .before .before .before .copy .ensures) (c .before .before .before .before .lay-product-at .ensures) (c .before .after-close .ensures)
+lay-operand-returns-2 t c = let s = c .before .before .before .before .before .before .before .before .before .before .before .before .before .before .before .before .before .before in lay-power-end (s .args .c .left) (names (s .args .table .now)) (s .args .text .now) (s .args .c .at) _ (c .before .before .before .before .before .before .before .before .before .before .before .before .before .before .token-at .ensures) (s .args .page .now) _ (c .before .before .before .before .before .before .before .before .before .before .before .before .q .given .1) _ _ _ _ _ _ (c .before .before .before .before .before .before .before .before .copy .ensures) (c .before .before .before .before .lay-product-at .ensures) (c .before .after-close .ensures)
 
 lay-operand-same-length-3 : (t : ℕ) → lay-operand-lts.Need-same-length-3 (lay-operand-env t) (lay-operand-at t) lay-operand.Post
 lay-operand-same-length-3 t c = search needs
 
 lay-operand-returns-3 : (t : ℕ) → lay-operand-lts.Need-returns-3 (lay-operand-env t) (lay-operand-at t) lay-operand.Post
-lay-operand-returns-3 t c = lay-open-end (c .before .before .before .before .before .before .before .before .before .before .before .before .args .c .left) (names (c .before .before .before .before .before .before .before .before .before .before .before .before .args .table .now)) (c .before .before .before .before .before .before .before .before .before .before .before .before .args .text .now) (c .before .before .before .before .before .before .before .before .before .before .before .before .args .c .at) _ (c .before .before .before .before .before .before .before .before .token-at .ensures) (c .before .before .before .before .before .before .before .before .before .before .before .before .args .page .now) _ (c .before .before .before .before .before .before .q2 .given .1) _ _ _ _ (c .before .before .before .lay-product-at2 .ensures) (c .after-close2 .ensures)
+lay-operand-returns-3 t c = let s = c .before .before .before .before .before .before .before .before .before .before .before .before in lay-open-end (s .args .c .left) (names (s .args .table .now)) (s .args .text .now) (s .args .c .at) _ (c .before .before .before .before .before .before .before .before .token-at .ensures) (s .args .page .now) _ (c .before .before .before .before .before .before .q2 .given .1) _ _ _ _ (c .before .before .before .lay-product-at2 .ensures) (c .after-close2 .ensures)
 
 lay-operand-returns-4 : (t : ℕ) → lay-operand-lts.Need-returns-4 (lay-operand-env t) (lay-operand-at t) lay-operand.Post
-lay-operand-returns-4 t c = lay-none (c .before .before .before .before .before .args .c .left) (names (c .before .before .before .before .before .args .table .now)) (c .before .before .before .before .before .args .text .now) (c .before .before .before .before .before .args .c .at) _ (c .before .token-at .ensures) (c .before .before .before .before .before .args .page .now) (operand-else _ _ _ _ (c .match .keys4))
+lay-operand-returns-4 t c = let s = c .before .before .before .before .before in lay-none (s .args .c .left) (names (s .args .table .now)) (s .args .text .now) (s .args .c .at) _ (c .before .token-at .ensures) (s .args .page .now) (operand-else _ _ _ _ (c .match .keys4))
 
 lay-operand-at-sub-lay-operand : (t : ℕ) → lay-operand-at-lts.Need-sub-lay-operand (lay-operand-at-env t) (lay-operand-at-at t) lay-operand-at′.Post
 lay-operand-at-sub-lay-operand t c = omega (arith, c .before .before .before .pre .1 .fits)
@@ -181,13 +181,13 @@ lay-operand-at-part-lay-operand-end : (t : ℕ) → lay-operand-at-lts.Need-part
 lay-operand-at-part-lay-operand-end t c = search needs
 
 lay-operand-at-lay-operand-requires : (t : ℕ) → lay-operand-at-lts.Need-lay-operand-requires (lay-operand-at-env t) (lay-operand-at-at t) lay-operand-at′.Post
-lay-operand-at-lay-operand-requires t c κs = (omega (arith, c .before .before .before .before .pre .0), lay-lent-ready _ (c .before .before .before .before .args .from) (c .before .before .before .before .args .page .now) (c .before .before .before .before .pre .1))
+lay-operand-at-lay-operand-requires t c κs = let s = c .before .before .before .before in (omega (arith, s .pre .0), lay-lent-ready _ (s .args .from) (s .args .page .now) (s .pre .1))
 
 lay-operand-at-same-length : (t : ℕ) → lay-operand-at-lts.Need-same-length (lay-operand-at-env t) (lay-operand-at-at t) lay-operand-at′.Post
 lay-operand-at-same-length t c = search needs
 
 lay-operand-at-returns : (t : ℕ) → lay-operand-at-lts.Need-returns (lay-operand-at-env t) (lay-operand-at-at t) lay-operand-at′.Post
-lay-operand-at-returns t c = lay-lent-end _ (c .before .before .before .before .before .before .before .args .from) (c .before .before .before .before .before .before .before .args .page .now) _ _ _ _ (omega (arith, c .before .before .before .before .before .before .before .pre .1 .fits)) (c .before .before .lay-operand .ensures) refl
+lay-operand-at-returns t c = let s = c .before .before .before .before .before .before .before in lay-lent-end _ (s .args .from) (s .args .page .now) _ _ _ _ (omega (arith, s .pre .1 .fits)) (c .before .before .lay-operand .ensures) refl
 
 abbrev lay-product-Inv-loop : lay-product-lts.InvT-loop
 lay-product-Inv-loop text table page₀ left end₀ width₀ turns₀ page end width turns = ((p : ℕ) (old : List ℕ) → LayReady (productOf left (names table) text p) 0 (length old) → Going left (names table) text p old page₀ end₀ width₀ turns₀ → Going left (names table) text p old page end width turns) × (length page ≡ length page₀)
@@ -196,7 +196,7 @@ abbrev lay-product-μ-loop : lay-product-lts.MeasureT-loop
 lay-product-μ-loop text table page₀ left end₀ width₀ turns₀ page end width turns = turns
 
 lay-product-lay-operand-requires : (t : ℕ) → lay-product-lts.Need-lay-operand-requires (lay-product-env t) (lay-product-at t) lay-product.Post lay-product-Inv-loop lay-product-μ-loop
-lay-product-lay-operand-requires t c κs = (omega (arith, c .before .before .before .before .pre .0), lay-first (c .before .before .before .before .args .c .left) (names (c .before .before .before .before .args .table .now)) (c .before .before .before .before .args .text .now) (c .before .before .before .before .args .c .at) (c .before .before .before .before .args .page .now) (c .before .before .before .before .pre .1))
+lay-product-lay-operand-requires t c κs = let s = c .before .before .before .before in (omega (arith, s .pre .0), lay-first (s .args .c .left) (names (s .args .table .now)) (s .args .text .now) (s .args .c .at) (s .args .page .now) (s .pre .1))
 
 lay-product-loop-holds : (t : ℕ) → lay-product-lts.Need-loop-holds (lay-product-env t) (lay-product-at t) lay-product.Post lay-product-Inv-loop lay-product-μ-loop
 lay-product-loop-holds t c = (λ p old R G. G, refl)
@@ -211,19 +211,19 @@ lay-product-same-length : (t : ℕ) → lay-product-lts.Need-same-length (lay-pr
 lay-product-same-length t c = search needs
 
 lay-product-returns : (t : ℕ) → lay-product-lts.Need-returns (lay-product-env t) (lay-product-at t) lay-product.Post lay-product-Inv-loop lay-product-μ-loop
-lay-product-returns t c = going-else (c .before .before .before .before .before .before .before .before .before .before .before .args .c .left) (names (c .before .before .before .before .before .before .before .before .before .before .before .args .table .now)) (c .before .before .before .before .before .before .before .before .before .before .before .args .text .now) (c .before .before .before .before .before .before .before .before .before .before .before .args .c .at) (c .before .before .before .before .before .before .before .before .before .before .before .args .page .now) (c .before .before .before .loop .page) (c .before .before .before .loop .end) (c .before .before .before .loop .width) (c .before .before .before .loop .turns) (c .before .before .before .loop .inv .0 (c .before .before .before .before .before .before .before .before .before .before .before .args .c .at) (c .before .before .before .before .before .before .before .before .before .before .before .args .page .now) (c .before .before .before .before .before .before .before .before .before .before .before .pre .1) (going-start (c .before .before .before .before .before .before .before .before .before .before .before .args .c .left) (names (c .before .before .before .before .before .before .before .before .before .before .before .args .table .now)) (c .before .before .before .before .before .before .before .before .before .before .before .args .text .now) (c .before .before .before .before .before .before .before .before .before .before .before .args .c .at) (c .before .before .before .before .before .before .before .before .before .before .before .args .page .now) _ _ _ (c .before .before .before .before .before .before .lay-operand .ensures))) (omega (arith, c .before .before .loop-test .taken)) _ (c .before .token-at .ensures) (times-over _ _ (c .match .keys2))
+lay-product-returns t c = let s = c .before .before .before .before .before .before .before .before .before .before .before in going-else (s .args .c .left) (names (s .args .table .now)) (s .args .text .now) (s .args .c .at) (s .args .page .now) (c .before .before .before .loop .page) (c .before .before .before .loop .end) (c .before .before .before .loop .width) (c .before .before .before .loop .turns) (c .before .before .before .loop .inv .0 (s .args .c .at) (s .args .page .now) (s .pre .1) (going-start (s .args .c .left) (names (s .args .table .now)) (s .args .text .now) (s .args .c .at) (s .args .page .now) _ _ _ (c .before .before .before .before .before .before .lay-operand .ensures))) (omega (arith, c .before .before .loop-test .taken)) _ (c .before .token-at .ensures) (times-over _ _ (c .match .keys2))
 
 lay-product-lead-requires : (t : ℕ) → lay-product-lts.Need-lead-requires (lay-product-env t) (lay-product-at t) lay-product.Post lay-product-Inv-loop lay-product-μ-loop
-lay-product-lead-requires t c κs = going-room (c .before .before .before .before .before .before .before .before .before .before .before .before .before .before .args .c .left) (names (c .before .before .before .before .before .before .before .before .before .before .before .before .before .before .args .table .now)) (c .before .before .before .before .before .before .before .before .before .before .before .before .before .before .args .text .now) (c .before .before .before .before .before .before .before .before .before .before .before .before .before .before .args .c .at) (c .before .before .before .before .before .before .before .before .before .before .before .before .before .before .args .page .now) (c .before .before .before .before .before .before .loop .page) (c .before .before .before .before .before .before .loop .end) (c .before .before .before .before .before .before .loop .width) (c .before .before .before .before .before .before .loop .turns) (c .before .before .before .before .before .before .loop .inv .0 (c .before .before .before .before .before .before .before .before .before .before .before .before .before .before .args .c .at) (c .before .before .before .before .before .before .before .before .before .before .before .before .before .before .args .page .now) (c .before .before .before .before .before .before .before .before .before .before .before .before .before .before .pre .1) (going-start (c .before .before .before .before .before .before .before .before .before .before .before .before .before .before .args .c .left) (names (c .before .before .before .before .before .before .before .before .before .before .before .before .before .before .args .table .now)) (c .before .before .before .before .before .before .before .before .before .before .before .before .before .before .args .text .now) (c .before .before .before .before .before .before .before .before .before .before .before .before .before .before .args .c .at) (c .before .before .before .before .before .before .before .before .before .before .before .before .before .before .args .page .now) _ _ _ (c .before .before .before .before .before .before .before .before .before .lay-operand .ensures))) (omega (arith, c .before .before .before .before .before .loop-test .taken)) _ (c .before .before .before .before .token-at .ensures) _ (c .before .before .k .given .1) (c .before .before .before .before .before .before .before .before .before .before .before .before .before .before .pre .1)
+lay-product-lead-requires t c κs = let s = c .before .before .before .before .before .before .before .before .before .before .before .before .before .before in going-room (s .args .c .left) (names (s .args .table .now)) (s .args .text .now) (s .args .c .at) (s .args .page .now) (c .before .before .before .before .before .before .loop .page) (c .before .before .before .before .before .before .loop .end) (c .before .before .before .before .before .before .loop .width) (c .before .before .before .before .before .before .loop .turns) (c .before .before .before .before .before .before .loop .inv .0 (s .args .c .at) (s .args .page .now) (s .pre .1) (going-start (s .args .c .left) (names (s .args .table .now)) (s .args .text .now) (s .args .c .at) (s .args .page .now) _ _ _ (c .before .before .before .before .before .before .before .before .before .lay-operand .ensures))) (omega (arith, c .before .before .before .before .before .loop-test .taken)) _ (c .before .before .before .before .token-at .ensures) _ (c .before .before .k .given .1) (s .pre .1)
 
 lay-product-add-m : (t : ℕ) → lay-product-lts.Need-add-m (lay-product-env t) (lay-product-at t) lay-product.Post lay-product-Inv-loop lay-product-μ-loop
-lay-product-add-m t c = omega (arith, c .before .before .before .before .before .before .before .before .before .before .before .before .before .before .before .before .before .good .1 .1 .1 .0, c .before .before .before .before .before .before .before .before .before .loop .inv .1, c .before .before .before .before .before .before .before .before .before .before .before .before .lay-operand .kept, going-room (c .before .before .before .before .before .before .before .before .before .before .before .before .before .before .before .before .before .args .c .left) (names (c .before .before .before .before .before .before .before .before .before .before .before .before .before .before .before .before .before .args .table .now)) (c .before .before .before .before .before .before .before .before .before .before .before .before .before .before .before .before .before .args .text .now) (c .before .before .before .before .before .before .before .before .before .before .before .before .before .before .before .before .before .args .c .at) (c .before .before .before .before .before .before .before .before .before .before .before .before .before .before .before .before .before .args .page .now) (c .before .before .before .before .before .before .before .before .before .loop .page) (c .before .before .before .before .before .before .before .before .before .loop .end) (c .before .before .before .before .before .before .before .before .before .loop .width) (c .before .before .before .before .before .before .before .before .before .loop .turns) (c .before .before .before .before .before .before .before .before .before .loop .inv .0 (c .before .before .before .before .before .before .before .before .before .before .before .before .before .before .before .before .before .args .c .at) (c .before .before .before .before .before .before .before .before .before .before .before .before .before .before .before .before .before .args .page .now) (c .before .before .before .before .before .before .before .before .before .before .before .before .before .before .before .before .before .pre .1) (going-start (c .before .before .before .before .before .before .before .before .before .before .before .before .before .before .before .before .before .args .c .left) (names (c .before .before .before .before .before .before .before .before .before .before .before .before .before .before .before .before .before .args .table .now)) (c .before .before .before .before .before .before .before .before .before .before .before .before .before .before .before .before .before .args .text .now) (c .before .before .before .before .before .before .before .before .before .before .before .before .before .before .before .before .before .args .c .at) (c .before .before .before .before .before .before .before .before .before .before .before .before .before .before .before .before .before .args .page .now) _ _ _ (c .before .before .before .before .before .before .before .before .before .before .before .before .lay-operand .ensures))) (omega (arith, c .before .before .before .before .before .before .before .before .loop-test .taken)) _ (c .before .before .before .before .before .before .before .token-at .ensures) _ (c .before .before .before .before .before .k .given .1) (c .before .before .before .before .before .before .before .before .before .before .before .before .before .before .before .before .before .pre .1))
+lay-product-add-m t c = let s = c .before .before .before .before .before .before .before .before .before .before .before .before .before .before .before .before .before in omega (arith, s .good .1 .1 .1 .0, c .before .before .before .before .before .before .before .before .before .loop .inv .1, c .before .before .before .before .before .before .before .before .before .before .before .before .lay-operand .kept, going-room (s .args .c .left) (names (s .args .table .now)) (s .args .text .now) (s .args .c .at) (s .args .page .now) (c .before .before .before .before .before .before .before .before .before .loop .page) (c .before .before .before .before .before .before .before .before .before .loop .end) (c .before .before .before .before .before .before .before .before .before .loop .width) (c .before .before .before .before .before .before .before .before .before .loop .turns) (c .before .before .before .before .before .before .before .before .before .loop .inv .0 (s .args .c .at) (s .args .page .now) (s .pre .1) (going-start (s .args .c .left) (names (s .args .table .now)) (s .args .text .now) (s .args .c .at) (s .args .page .now) _ _ _ (c .before .before .before .before .before .before .before .before .before .before .before .before .lay-operand .ensures))) (omega (arith, c .before .before .before .before .before .before .before .before .loop-test .taken)) _ (c .before .before .before .before .before .before .before .token-at .ensures) _ (c .before .before .before .before .before .k .given .1) (s .pre .1))
 
 lay-product-lay-operand-at-requires : (t : ℕ) → lay-product-lts.Need-lay-operand-at-requires (lay-product-env t) (lay-product-at t) lay-product.Post lay-product-Inv-loop lay-product-μ-loop
-lay-product-lay-operand-at-requires t c κs = (omega (arith, c .before .before .before .before .before .before .before .before .before .before .before .before .before .before .before .before .before .before .pre .0), going-ready (c .before .before .before .before .before .before .before .before .before .before .before .before .before .before .before .before .before .before .args .c .left) (names (c .before .before .before .before .before .before .before .before .before .before .before .before .before .before .before .before .before .before .args .table .now)) (c .before .before .before .before .before .before .before .before .before .before .before .before .before .before .before .before .before .before .args .text .now) (c .before .before .before .before .before .before .before .before .before .before .before .before .before .before .before .before .before .before .args .c .at) (c .before .before .before .before .before .before .before .before .before .before .before .before .before .before .before .before .before .before .args .page .now) (c .before .before .before .before .before .before .before .before .before .before .loop .page) (c .before .before .before .before .before .before .before .before .before .before .loop .end) (c .before .before .before .before .before .before .before .before .before .before .loop .width) (c .before .before .before .before .before .before .before .before .before .before .loop .turns) (c .before .before .before .before .before .before .before .before .before .before .loop .inv .0 (c .before .before .before .before .before .before .before .before .before .before .before .before .before .before .before .before .before .before .args .c .at) (c .before .before .before .before .before .before .before .before .before .before .before .before .before .before .before .before .before .before .args .page .now) (c .before .before .before .before .before .before .before .before .before .before .before .before .before .before .before .before .before .before .pre .1) (going-start (c .before .before .before .before .before .before .before .before .before .before .before .before .before .before .before .before .before .before .args .c .left) (names (c .before .before .before .before .before .before .before .before .before .before .before .before .before .before .before .before .before .before .args .table .now)) (c .before .before .before .before .before .before .before .before .before .before .before .before .before .before .before .before .before .before .args .text .now) (c .before .before .before .before .before .before .before .before .before .before .before .before .before .before .before .before .before .before .args .c .at) (c .before .before .before .before .before .before .before .before .before .before .before .before .before .before .before .before .before .before .args .page .now) _ _ _ (c .before .before .before .before .before .before .before .before .before .before .before .before .before .lay-operand .ensures))) (omega (arith, c .before .before .before .before .before .before .before .before .before .loop-test .taken)) _ (c .before .before .before .before .before .before .before .before .token-at .ensures) _ (c .before .before .before .before .before .before .k .given .1) (c .before .before .before .before .before .before .before .before .before .before .before .before .before .before .before .before .before .before .pre .1) _ (c .before .before .before .lead .ensures))
+lay-product-lay-operand-at-requires t c κs = let s = c .before .before .before .before .before .before .before .before .before .before .before .before .before .before .before .before .before .before in (omega (arith, s .pre .0), going-ready (s .args .c .left) (names (s .args .table .now)) (s .args .text .now) (s .args .c .at) (s .args .page .now) (c .before .before .before .before .before .before .before .before .before .before .loop .page) (c .before .before .before .before .before .before .before .before .before .before .loop .end) (c .before .before .before .before .before .before .before .before .before .before .loop .width) (c .before .before .before .before .before .before .before .before .before .before .loop .turns) (c .before .before .before .before .before .before .before .before .before .before .loop .inv .0 (s .args .c .at) (s .args .page .now) (s .pre .1) (going-start (s .args .c .left) (names (s .args .table .now)) (s .args .text .now) (s .args .c .at) (s .args .page .now) _ _ _ (c .before .before .before .before .before .before .before .before .before .before .before .before .before .lay-operand .ensures))) (omega (arith, c .before .before .before .before .before .before .before .before .before .loop-test .taken)) _ (c .before .before .before .before .before .before .before .before .token-at .ensures) _ (c .before .before .before .before .before .before .k .given .1) (s .pre .1) _ (c .before .before .before .lead .ensures))
 
 lay-product-add-width : (t : ℕ) → lay-product-lts.Need-add-width (lay-product-env t) (lay-product-at t) lay-product.Post lay-product-Inv-loop lay-product-μ-loop
-lay-product-add-width t c = omega (arith, c .before .before .before .before .before .before .before .before .before .before .before .before .before .before .before .before .before .before .before .before .before .before .good .1 .1 .1 .0, going-sum (c .before .before .before .before .before .before .before .before .before .before .before .before .before .before .before .before .before .before .before .before .before .before .args .c .left) (names (c .before .before .before .before .before .before .before .before .before .before .before .before .before .before .before .before .before .before .before .before .before .before .args .table .now)) (c .before .before .before .before .before .before .before .before .before .before .before .before .before .before .before .before .before .before .before .before .before .before .args .text .now) (c .before .before .before .before .before .before .before .before .before .before .before .before .before .before .before .before .before .before .before .before .before .before .args .c .at) (c .before .before .before .before .before .before .before .before .before .before .before .before .before .before .before .before .before .before .before .before .before .before .args .page .now) (c .before .before .before .before .before .before .before .before .before .before .before .before .before .before .loop .page) (c .before .before .before .before .before .before .before .before .before .before .before .before .before .before .loop .end) (c .before .before .before .before .before .before .before .before .before .before .before .before .before .before .loop .width) (c .before .before .before .before .before .before .before .before .before .before .before .before .before .before .loop .turns) (c .before .before .before .before .before .before .before .before .before .before .before .before .before .before .loop .inv .0 (c .before .before .before .before .before .before .before .before .before .before .before .before .before .before .before .before .before .before .before .before .before .before .args .c .at) (c .before .before .before .before .before .before .before .before .before .before .before .before .before .before .before .before .before .before .before .before .before .before .args .page .now) (c .before .before .before .before .before .before .before .before .before .before .before .before .before .before .before .before .before .before .before .before .before .before .pre .1) (going-start (c .before .before .before .before .before .before .before .before .before .before .before .before .before .before .before .before .before .before .before .before .before .before .args .c .left) (names (c .before .before .before .before .before .before .before .before .before .before .before .before .before .before .before .before .before .before .before .before .before .before .args .table .now)) (c .before .before .before .before .before .before .before .before .before .before .before .before .before .before .before .before .before .before .before .before .before .before .args .text .now) (c .before .before .before .before .before .before .before .before .before .before .before .before .before .before .before .before .before .before .before .before .before .before .args .c .at) (c .before .before .before .before .before .before .before .before .before .before .before .before .before .before .before .before .before .before .before .before .before .before .args .page .now) _ _ _ (c .before .before .before .before .before .before .before .before .before .before .before .before .before .before .before .before .before .lay-operand .ensures))) (omega (arith, c .before .before .before .before .before .before .before .before .before .before .before .before .before .loop-test .taken)) _ (c .before .before .before .before .before .before .before .before .before .before .before .before .token-at .ensures) _ (c .before .before .before .before .before .before .before .before .before .before .k .given .1) (c .before .before .before .before .before .before .before .before .before .before .before .before .before .before .before .before .before .before .before .before .before .before .pre .1) _ (c .before .before .before .before .before .before .before .lead .ensures) _ _ _ (c .before .before .before .lay-operand-at .ensures))
+lay-product-add-width t c = let s = c .before .before .before .before .before .before .before .before .before .before .before .before .before .before .before .before .before .before .before .before .before .before in omega (arith, s .good .1 .1 .1 .0, going-sum (s .args .c .left) (names (s .args .table .now)) (s .args .text .now) (s .args .c .at) (s .args .page .now) (c .before .before .before .before .before .before .before .before .before .before .before .before .before .before .loop .page) (c .before .before .before .before .before .before .before .before .before .before .before .before .before .before .loop .end) (c .before .before .before .before .before .before .before .before .before .before .before .before .before .before .loop .width) (c .before .before .before .before .before .before .before .before .before .before .before .before .before .before .loop .turns) (c .before .before .before .before .before .before .before .before .before .before .before .before .before .before .loop .inv .0 (s .args .c .at) (s .args .page .now) (s .pre .1) (going-start (s .args .c .left) (names (s .args .table .now)) (s .args .text .now) (s .args .c .at) (s .args .page .now) _ _ _ (c .before .before .before .before .before .before .before .before .before .before .before .before .before .before .before .before .before .lay-operand .ensures))) (omega (arith, c .before .before .before .before .before .before .before .before .before .before .before .before .before .loop-test .taken)) _ (c .before .before .before .before .before .before .before .before .before .before .before .before .token-at .ensures) _ (c .before .before .before .before .before .before .before .before .before .before .k .given .1) (s .pre .1) _ (c .before .before .before .before .before .before .before .lead .ensures) _ _ _ (c .before .before .before .lay-operand-at .ensures))
 
 lay-product-sub-turns : (t : ℕ) → lay-product-lts.Need-sub-turns (lay-product-env t) (lay-product-at t) lay-product.Post lay-product-Inv-loop lay-product-μ-loop
 lay-product-sub-turns t c = search needs
@@ -232,13 +232,13 @@ lay-product-loop-less : (t : ℕ) → lay-product-lts.Need-loop-less (lay-produc
 lay-product-loop-less t c = search needs
 
 lay-product-loop-again : (t : ℕ) → lay-product-lts.Need-loop-again (lay-product-env t) (lay-product-at t) lay-product.Post lay-product-Inv-loop lay-product-μ-loop
-lay-product-loop-again t c = (λ p old R G. going-on (c .before .before .before .before .before .before .before .before .before .before .before .before .before .before .before .before .before .before .before .before .before .before .args .c .left) (names (c .before .before .before .before .before .before .before .before .before .before .before .before .before .before .before .before .before .before .before .before .before .before .args .table .now)) (c .before .before .before .before .before .before .before .before .before .before .before .before .before .before .before .before .before .before .before .before .before .before .args .text .now) p old (c .before .before .before .before .before .before .before .before .before .before .before .before .before .before .loop .page) (c .before .before .before .before .before .before .before .before .before .before .before .before .before .before .loop .end) (c .before .before .before .before .before .before .before .before .before .before .before .before .before .before .loop .width) (c .before .before .before .before .before .before .before .before .before .before .before .before .before .before .loop .turns) (c .before .before .before .before .before .before .before .before .before .before .before .before .before .before .loop .inv .0 p old R G) (omega (arith, c .before .before .before .before .before .before .before .before .before .before .before .before .before .loop-test .taken)) _ (c .before .before .before .before .before .before .before .before .before .before .before .before .token-at .ensures) _ (c .before .before .before .before .before .before .before .before .before .before .k .given .1) R _ (c .before .before .before .before .before .before .before .lead .ensures) _ _ _ (c .before .before .before .lay-operand-at .ensures), search needs)
+lay-product-loop-again t c = let s = c .before .before .before .before .before .before .before .before .before .before .before .before .before .before .before .before .before .before .before .before .before .before in (λ p old R G. going-on (s .args .c .left) (names (s .args .table .now)) (s .args .text .now) p old (c .before .before .before .before .before .before .before .before .before .before .before .before .before .before .loop .page) (c .before .before .before .before .before .before .before .before .before .before .before .before .before .before .loop .end) (c .before .before .before .before .before .before .before .before .before .before .before .before .before .before .loop .width) (c .before .before .before .before .before .before .before .before .before .before .before .before .before .before .loop .turns) (c .before .before .before .before .before .before .before .before .before .before .before .before .before .before .loop .inv .0 p old R G) (omega (arith, c .before .before .before .before .before .before .before .before .before .before .before .before .before .loop-test .taken)) _ (c .before .before .before .before .before .before .before .before .before .before .before .before .token-at .ensures) _ (c .before .before .before .before .before .before .before .before .before .before .k .given .1) R _ (c .before .before .before .before .before .before .before .lead .ensures) _ _ _ (c .before .before .before .lay-operand-at .ensures), search needs)
 
 lay-product-same-length-2 : (t : ℕ) → lay-product-lts.Need-same-length-2 (lay-product-env t) (lay-product-at t) lay-product.Post lay-product-Inv-loop lay-product-μ-loop
 lay-product-same-length-2 t c = search needs
 
 lay-product-returns-2 : (t : ℕ) → lay-product-lts.Need-returns-2 (lay-product-env t) (lay-product-at t) lay-product.Post lay-product-Inv-loop lay-product-μ-loop
-lay-product-returns-2 t c = going-done (c .before .before .before .before .before .before .before .before .before .args .c .left) (names (c .before .before .before .before .before .before .before .before .before .args .table .now)) (c .before .before .before .before .before .before .before .before .before .args .text .now) (c .before .before .before .before .before .before .before .before .before .args .c .at) (c .before .before .before .before .before .before .before .before .before .args .page .now) (c .before .loop .page) (c .before .loop .end) (c .before .loop .width) (c .before .loop .turns) (c .before .loop .inv .0 (c .before .before .before .before .before .before .before .before .before .args .c .at) (c .before .before .before .before .before .before .before .before .before .args .page .now) (c .before .before .before .before .before .before .before .before .before .pre .1) (going-start (c .before .before .before .before .before .before .before .before .before .args .c .left) (names (c .before .before .before .before .before .before .before .before .before .args .table .now)) (c .before .before .before .before .before .before .before .before .before .args .text .now) (c .before .before .before .before .before .before .before .before .before .args .c .at) (c .before .before .before .before .before .before .before .before .before .args .page .now) _ _ _ (c .before .before .before .before .lay-operand .ensures))) (omega (arith, c .loop-test .left))
+lay-product-returns-2 t c = let s = c .before .before .before .before .before .before .before .before .before in going-done (s .args .c .left) (names (s .args .table .now)) (s .args .text .now) (s .args .c .at) (s .args .page .now) (c .before .loop .page) (c .before .loop .end) (c .before .loop .width) (c .before .loop .turns) (c .before .loop .inv .0 (s .args .c .at) (s .args .page .now) (s .pre .1) (going-start (s .args .c .left) (names (s .args .table .now)) (s .args .text .now) (s .args .c .at) (s .args .page .now) _ _ _ (c .before .before .before .before .lay-operand .ensures))) (omega (arith, c .loop-test .left))
 
 lay-product-at-sub-lay-product : (t : ℕ) → lay-product-at-lts.Need-sub-lay-product (lay-product-at-env t) (lay-product-at-at t) lay-product-at′.Post
 lay-product-at-sub-lay-product t c = omega (arith, c .before .before .before .pre .1 .fits)
@@ -250,13 +250,13 @@ lay-product-at-part-lay-product-end : (t : ℕ) → lay-product-at-lts.Need-part
 lay-product-at-part-lay-product-end t c = search needs
 
 lay-product-at-lay-product-requires : (t : ℕ) → lay-product-at-lts.Need-lay-product-requires (lay-product-at-env t) (lay-product-at-at t) lay-product-at′.Post
-lay-product-at-lay-product-requires t c κs = (omega (arith, c .before .before .before .before .pre .0), lay-lent-ready _ (c .before .before .before .before .args .from) (c .before .before .before .before .args .page .now) (c .before .before .before .before .pre .1))
+lay-product-at-lay-product-requires t c κs = let s = c .before .before .before .before in (omega (arith, s .pre .0), lay-lent-ready _ (s .args .from) (s .args .page .now) (s .pre .1))
 
 lay-product-at-same-length : (t : ℕ) → lay-product-at-lts.Need-same-length (lay-product-at-env t) (lay-product-at-at t) lay-product-at′.Post
 lay-product-at-same-length t c = search needs
 
 lay-product-at-returns : (t : ℕ) → lay-product-at-lts.Need-returns (lay-product-at-env t) (lay-product-at-at t) lay-product-at′.Post
-lay-product-at-returns t c = lay-lent-end _ (c .before .before .before .before .before .before .before .args .from) (c .before .before .before .before .before .before .before .args .page .now) _ _ _ _ (omega (arith, c .before .before .before .before .before .before .before .pre .1 .fits)) (c .before .before .lay-product .ensures) refl
+lay-product-at-returns t c = let s = c .before .before .before .before .before .before .before in lay-lent-end _ (s .args .from) (s .args .page .now) _ _ _ _ (omega (arith, s .pre .1 .fits)) (c .before .before .lay-product .ensures) refl
 
 pub +lay-operand+lay-operand-at+lay-product+lay-product-at-spec : {M : Type 1} → statement M
 +lay-operand+lay-operand-at+lay-product+lay-product-at-spec =

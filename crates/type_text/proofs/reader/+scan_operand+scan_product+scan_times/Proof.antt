@@ -79,7 +79,7 @@ abbrev scan-times-env : ℕ → scan-times-lts.Claims
 scan-times-env t = (token-at-reads.Asked, token-at-reads.Learnt, spend-reads.Asked, spend-reads.Learnt, scan-operand-below t, scan-operand.Post, larger-reads.Asked, larger-reads.Learnt, deeper-reads.Asked, deeper-reads.Learnt)
 
 scan-operand-returns : (t : ℕ) → scan-operand-lts.Need-returns (scan-operand-env t) (scan-operand-at t) scan-operand.Post
-scan-operand-returns t c = operand-deep (c .before .before .before .args .c .left) (names (c .before .before .before .args .table .now)) (c .before .before .before .args .text .now) (c .before .before .before .args .c .at) (c .before .before .before .args .room) (c .if1 .taken)
+scan-operand-returns t c = let s = c .before .before .before in operand-deep (s .args .c .left) (names (s .args .table .now)) (s .args .text .now) (s .args .c .at) (s .args .room) (c .if1 .taken)
 
 scan-operand-token-at-requires : (t : ℕ) → scan-operand-lts.Need-token-at-requires (scan-operand-env t) (scan-operand-at t) scan-operand.Post
 scan-operand-token-at-requires t c κs = search needs
@@ -121,16 +121,16 @@ scan-operand-scan-close-requires-2 : (t : ℕ) → scan-operand-lts.Need-scan-cl
 scan-operand-scan-close-requires-2 t c κs = search needs
 
 scan-operand-returns-2 : (t : ℕ) → scan-operand-lts.Need-returns-2 (scan-operand-env t) (scan-operand-at t) scan-operand.Post
-scan-operand-returns-2 t c = operand-leaf (c .before .before .before .before .before .before .before .before .before .args .c .left) (names (c .before .before .before .before .before .before .before .before .before .args .table .now)) (c .before .before .before .before .before .before .before .before .before .args .text .now) (c .before .before .before .before .before .before .before .before .before .args .c .at) (c .before .before .before .before .before .before .before .before .before .args .room) (c .before .before .before .before .before .before .if1 .left) _ (c .before .before .before .before .before .token-at .ensures) _ _ _ _ (c .before .before .before .a .given .1) (c .before .atom-record-width .ensures) (c .spend .ensures)
+scan-operand-returns-2 t c = let s = c .before .before .before .before .before .before .before .before .before in operand-leaf (s .args .c .left) (names (s .args .table .now)) (s .args .text .now) (s .args .c .at) (s .args .room) (c .before .before .before .before .before .before .if1 .left) _ (c .before .before .before .before .before .token-at .ensures) _ _ _ _ (c .before .before .before .a .given .1) (c .before .atom-record-width .ensures) (c .spend .ensures)
 
 scan-operand-returns-3 : (t : ℕ) → scan-operand-lts.Need-returns-3 (scan-operand-env t) (scan-operand-at t) scan-operand.Post
-scan-operand-returns-3 t c = operand-power (c .before .before .before .before .before .before .before .before .before .before .args .c .left) (names (c .before .before .before .before .before .before .before .before .before .before .args .table .now)) (c .before .before .before .before .before .before .before .before .before .before .args .text .now) (c .before .before .before .before .before .before .before .before .before .before .args .c .at) (c .before .before .before .before .before .before .before .before .before .before .args .room) (c .before .before .before .before .before .before .before .if1 .left) _ (c .before .before .before .before .before .before .token-at .ensures) _ _ _ _ (c .before .before .before .before .q .given .1) (c .before .before .spend2 .ensures) (c .before .scan-product .ensures) (c .scan-close .ensures)
+scan-operand-returns-3 t c = let s = c .before .before .before .before .before .before .before .before .before .before in operand-power (s .args .c .left) (names (s .args .table .now)) (s .args .text .now) (s .args .c .at) (s .args .room) (c .before .before .before .before .before .before .before .if1 .left) _ (c .before .before .before .before .before .before .token-at .ensures) _ _ _ _ (c .before .before .before .before .q .given .1) (c .before .before .spend2 .ensures) (c .before .scan-product .ensures) (c .scan-close .ensures)
 
 scan-operand-returns-4 : (t : ℕ) → scan-operand-lts.Need-returns-4 (scan-operand-env t) (scan-operand-at t) scan-operand.Post
-scan-operand-returns-4 t c = operand-open (c .before .before .before .before .before .before .before .before .before .args .c .left) (names (c .before .before .before .before .before .before .before .before .before .args .table .now)) (c .before .before .before .before .before .before .before .before .before .args .text .now) (c .before .before .before .before .before .before .before .before .before .args .c .at) (c .before .before .before .before .before .before .before .before .before .args .room) (c .before .before .before .before .before .before .if1 .left) _ (c .before .before .before .before .before .token-at .ensures) _ _ _ (c .before .before .before .q2 .given .1) (c .before .scan-product2 .ensures) (c .scan-close2 .ensures)
+scan-operand-returns-4 t c = let s = c .before .before .before .before .before .before .before .before .before in operand-open (s .args .c .left) (names (s .args .table .now)) (s .args .text .now) (s .args .c .at) (s .args .room) (c .before .before .before .before .before .before .if1 .left) _ (c .before .before .before .before .before .token-at .ensures) _ _ _ (c .before .before .before .q2 .given .1) (c .before .scan-product2 .ensures) (c .scan-close2 .ensures)
 
 scan-operand-returns-5 : (t : ℕ) → scan-operand-lts.Need-returns-5 (scan-operand-env t) (scan-operand-at t) scan-operand.Post
-scan-operand-returns-5 t c = operand-none (c .before .before .before .before .before .args .c .left) (names (c .before .before .before .before .before .args .table .now)) (c .before .before .before .before .before .args .text .now) (c .before .before .before .before .before .args .c .at) (c .before .before .before .before .before .args .room) (c .before .before .if1 .left) _ (c .before .token-at .ensures) (operand-else _ _ _ _ (c .match .keys4))
+scan-operand-returns-5 t c = let s = c .before .before .before .before .before in operand-none (s .args .c .left) (names (s .args .table .now)) (s .args .text .now) (s .args .c .at) (s .args .room) (c .before .before .if1 .left) _ (c .before .token-at .ensures) (operand-else _ _ _ _ (c .match .keys4))
 
 scan-product-scan-operand-requires : (t : ℕ) → scan-product-lts.Need-scan-operand-requires (scan-product-env t) (scan-product-at t) scan-product.Post
 scan-product-scan-operand-requires t c κs = search needs
@@ -145,10 +145,10 @@ scan-product-scan-times-requires : (t : ℕ) → scan-product-lts.Need-scan-time
 scan-product-scan-times-requires t c κs = search needs
 
 scan-product-returns : (t : ℕ) → scan-product-lts.Need-returns (scan-product-env t) (scan-product-at t) scan-product.Post
-scan-product-returns t c = product-stop (c .before .before .before .before .before .before .args .c .left) (names (c .before .before .before .before .before .before .args .table .now)) (c .before .before .before .before .before .before .args .text .now) (c .before .before .before .before .before .before .args .c .at) (c .before .before .before .before .before .before .args .room) _ (c .before .before .before .scan-operand .ensures) _ (c .before .f .given .1)
+scan-product-returns t c = let s = c .before .before .before .before .before .before in product-stop (s .args .c .left) (names (s .args .table .now)) (s .args .text .now) (s .args .c .at) (s .args .room) _ (c .before .before .before .scan-operand .ensures) _ (c .before .f .given .1)
 
 scan-product-returns-2 : (t : ℕ) → scan-product-lts.Need-returns-2 (scan-product-env t) (scan-product-at t) scan-product.Post
-scan-product-returns-2 t c = product-go (c .before .before .before .before .before .before .before .args .c .left) (names (c .before .before .before .before .before .before .before .args .table .now)) (c .before .before .before .before .before .before .before .args .text .now) (c .before .before .before .before .before .before .before .args .c .at) (c .before .before .before .before .before .before .before .args .room) _ (c .before .before .before .before .scan-operand .ensures) _ _ _ _ (c .before .before .e .given .1) (c .scan-times .ensures)
+scan-product-returns-2 t c = let s = c .before .before .before .before .before .before .before in product-go (s .args .c .left) (names (s .args .table .now)) (s .args .text .now) (s .args .c .at) (s .args .room) _ (c .before .before .before .before .scan-operand .ensures) _ _ _ _ (c .before .before .e .given .1) (c .scan-times .ensures)
 
 abbrev scan-times-Inv-loop : scan-times-lts.InvT-loop
 scan-times-Inv-loop text table left at depth e₀ d₀ r₀ turns₀ e d r turns = scanTimesOf left (names table) text turns₀ e₀ d₀ r₀ ≡ scanTimesOf left (names table) text turns e d r

@@ -34,7 +34,7 @@ loop-less : tie.Need-loop-less Inv-loop μ-loop
 loop-less c = search needs
 
 loop-again : tie.Need-loop-again Inv-loop μ-loop
-loop-again c = (lead-next (c .before .before .before .args .page .now) (c .before .before .loop .page) (c .before .before .before .args .n) (c .before .before .loop .i) (c .before .before .before .pre) (omega (arith, c .before .loop-test .taken)) (c .before .before .loop .inv .1) (c .before .before .loop .inv .0), omega (arith, c .before .before .loop .inv .1), simp length-set (c .before .before .loop .inv .2))
+loop-again c = let s = c .before .before .before in (lead-next (s .args .page .now) (c .before .before .loop .page) (s .args .n) (c .before .before .loop .i) (s .pre) (omega (arith, c .before .loop-test .taken)) (c .before .before .loop .inv .1) (c .before .before .loop .inv .0), omega (arith, c .before .before .loop .inv .1), simp length-set (c .before .before .loop .inv .2))
 
 slice-write-page-2 : tie.Need-slice-write-page-2 Inv-loop μ-loop
 slice-write-page-2 c = omega (arith, c .before .before .pre, c .before .loop .inv .2)
