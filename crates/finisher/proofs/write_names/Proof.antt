@@ -1,0 +1,63 @@
+use mathlib.Core.Path.{_≡_, refl, sym, ap, _∙_}
+use native.Mathlib.Omega.{arith}
+use Rattle.machine.specs.Forms.{test, then, step, yes-if, no-if, yes-eq, no-eq, yes-lt, no-lt, yes-le, no-le}
+use Prim.Native.Nat.{ℕ, _-_}
+use lib.ListN.{length}
+use Rattle.machine.specs.Machine.{mach}
+use Rattle.finisher.specs.Finisher.{eachOf, entryOf, writeNamesOf}
+use Rattle.finisher.proofs.Laws.{each-none, each-more, each-start}
+use borrow.Author.Needs.{needs}
+use Rattle.finisher.proofs.write_names.Statement.{statement}
+use Rattle.finisher.proofs.write_names.Tie as tie
+use Rattle.finisher.proofs.write_names.Reads as reads
+use Rattle.finisher.proofs.write_names.Lts as lts
+use Rattle.finisher.proofs.entry.Reads as entry-reads
+
+abbrev Inv-loop : tie.InvT-loop
+Inv-loop work output₀ size st v₀ j₀ output v j = (eachOf entryOf (st .met - j) j (mach size v work output) ≡ eachOf entryOf (st .met - j₀) j₀ (mach size v₀ work output₀)) × (length output ≡ length output₀)
+
+abbrev μ-loop : tie.MeasureT-loop
+μ-loop work output₀ size st v₀ j₀ output v j = st .met - j
+
+-- src/lib.rt:174:5
+loop-holds : tie.Need-loop-holds Inv-loop μ-loop
+loop-holds c = (refl, refl)
+
+-- src/lib.rt:175:9
+entry-requires : tie.Need-entry-requires Inv-loop μ-loop
+entry-requires c κs = search needs
+
+-- src/lib.rt:176:9
+add-j : tie.Need-add-j Inv-loop μ-loop
+add-j c = search needs
+
+-- src/lib.rt:174:5
+loop-less : tie.Need-loop-less Inv-loop μ-loop
+loop-less c = omega (arith, c .before .before .before .before .if1 .taken)
+
+-- src/lib.rt:174:5
+loop-again : tie.Need-loop-again Inv-loop μ-loop
+loop-again c = (each-more entryOf _ _ _ _ _ (c .before .before .before .before .if1 .taken) (c .before .before .entry .ensures) (c .before .before .before .before .before .before .loop .inv .0), omega (arith, c .before .before .entry .kept .1 .0, c .before .before .before .before .before .before .loop .inv .1))
+
+-- src/lib.rt:169:1
+same-length : tie.Need-same-length Inv-loop μ-loop
+same-length c = omega (arith, c .before .before .loop .inv .1)
+
+-- src/lib.rt:169:1
+returns : tie.Need-returns Inv-loop μ-loop
+unfolding writeNamesOf
+returns c = sym (each-none entryOf _ _ _ (c .if1 .left)) ∙ c .before .before .loop .inv .0 ∙ each-start entryOf _ _
+
+pub write-names-spec : {M : Type 1} → statement M
+write-names-spec =
+    tie.close
+    (tie.spec
+    Inv-loop
+    μ-loop
+    loop-holds
+    entry-requires
+    add-j
+    loop-less
+    loop-again
+    same-length
+    returns)
