@@ -7,3 +7,5 @@ pub mod Exact
 pub mod ExactEnvironment
 pub mod Numbers
 pub mod Cases
+pub mod Shape
+pub mod Faults

@@ -104,11 +104,11 @@ module _ (s : List ℕ) where
   step-ends : {st t : St} {x : List ℕ} {k o : ℕ} → Step s st x k o t → t .at .0 ≡ st .at .0 + length x
   step-ends a = a .stand .ends
 
-  step-moved : (st : St) (x : List ℕ) (e : Place) → Stand s (st .at .0) x (e .0) → Step s st x 0 0 (moved e st)
+  pub step-moved : (st : St) (x : List ℕ) (e : Place) → Stand s (st .at .0) x (e .0) → Step s st x 0 0 (moved e st)
   unfolding moved
   step-moved st x e h = record { stand = h; owns = omega arith; limit = λ l. l; opens = omega arith }
 
-  step-own : (e : Place) (st t : St) (x : List ℕ) → ownOf e st ≡ Next t → Stand s (st .at .0) x (e .0) → Step s st x 1 0 t
+  pub step-own : (e : Place) (st t : St) (x : List ℕ) → ownOf e st ≡ Next t → Stand s (st .at .0) x (e .0) → Step s st x 1 0 t
   unfolding ownOf
   step-own e st t x h y = go (ltb (st .slots) max-slots) refl h
     where
@@ -120,7 +120,7 @@ module _ (s : List ℕ) where
       go false k z = let i : _≡_ {A = ℕ} 0 1 = cc in absurd (omega arith)
 
   -- a declaration: one slot, and one more open, at most as many as there may be
-  step-declare : (e : Place) (st t : St) (x : List ℕ) → declareOf e st ≡ Next t → Stand s (st .at .0) x (e .0) → Step s st x 1 1 t × (t .opened ≤ max-opened)
+  pub step-declare : (e : Place) (st t : St) (x : List ℕ) → declareOf e st ≡ Next t → Stand s (st .at .0) x (e .0) → Step s st x 1 1 t × (t .opened ≤ max-opened)
   unfolding declareOf
   step-declare e st t x h y = go (ltb (st .opened) max-opened) refl (ltb (st .slots) max-slots) refl h
     where
@@ -307,10 +307,10 @@ module _ (names : ℕ) (s : List ℕ) (bytes : (i : ℕ) → getD s i 0 < 256) w
   -- one record, where X and Q read those below it
   module _ (d left : ℕ) (l : suc d + left ≡ levels) (X : Bool → St → Got Expr) (Q : St → Got Pred)
       (hX : (b : Bool) (t : St) → Holds (λ u a. ExprRead (suc d) b t a u) (X b t)) (hQ : (t : St) → Holds (λ u a. PredRead (suc d) t a u) (Q t)) (st : St) where
-    all-read : (n : ℕ) (t : St) → Holds (λ u a. ExprsRead (suc d) n t a u) (many none more (X false) n t)
+    pub all-read : (n : ℕ) (t : St) → Holds (λ u a. ExprsRead (suc d) n t a u) (many none more (X false) n t)
     all-read n t = holds-many none more (X false) (ExprRead (suc d) false) (ExprsRead (suc d)) (exprs-none (suc d)) (exprs-more (suc d)) (hX false) n t
 
-    preds-read : (n : ℕ) (t : St) → Holds (λ u a. PredsRead (suc d) n t a u) (many end also Q n t)
+    pub preds-read : (n : ℕ) (t : St) → Holds (λ u a. PredsRead (suc d) n t a u) (many end also Q n t)
     preds-read n t = holds-many end also Q (PredRead (suc d)) (PredsRead (suc d)) (preds-none (suc d)) (preds-more (suc d)) hQ n t
 
     deep-most : d ≤ max-depth
@@ -539,7 +539,7 @@ module _ (names : ℕ) (s : List ℕ) (bytes : (i : ℕ) → getD s i 0 < 256) w
       let i : t .at .0 ≡ st .at .0 + 3 = r .step .stand .ends in
       record { step = step-as s (step-join s (r .step) (q .step)) (omega arith) refl; count = ap suc (q .count); placed = (r .placed, rw i at (q .placed)); fits = (r .fits, q .fits) }
 
-  sound-targets : (n : ℕ) (st : St) → Holds (λ t a. TargetsRead n st a t) (targetsAt names s n st)
+  pub sound-targets : (n : ℕ) (st : St) → Holds (λ t a. TargetsRead n st a t) (targetsAt names s n st)
   unfolding targetsAt
   sound-targets n st = holds-many [] _∷_ (targetIn names s) TargetRead TargetsRead targets-none targets-more sound-target n st
 
@@ -550,7 +550,7 @@ module _ (names : ℕ) (s : List ℕ) (bytes : (i : ℕ) → getD s i 0 < 256) w
     pub placed : Placed (st .at .0 + 3) (a .1)
     pub fits : Fits names 1 (st .opened) (a .1)
 
-  sound-pair : (st : St) → Holds (λ t a. PairRead st a t) (pairIn max-depth names s st)
+  pub sound-pair : (st : St) → Holds (λ t a. PairRead st a t) (pairIn max-depth names s st)
   unfolding pairIn Holds spell-target
   sound-pair st =
       holds-then (λ t a. TargetRead st a t) (λ t a. PairRead st a t) (targetIn names s st) _ (sound-target st)
