@@ -177,3 +177,296 @@ module _ (names : ℕ) (s : List ℕ) (bytes : (i : ℕ) → getD s i 0 < 256) w
       go (got t e) k = tt
       go (malformed q) k = lead-up left st q (malformed-means left names s (bytes-at s bytes) (st .at .0) q k .0)
       go (deep q) k = lead-up left st q (deep-means left names s (bytes-at s bytes) (st .at .0) q k .0)
+
+  -- a spelling, a declaration
+  pub SpellingUp : St → ℕ → Type 0
+  SpellingUp st q = (x : Spelling) × Shape-spelling names x × UpTo s (st .at .0) q (spell-spelling x)
+
+  spelled-fails : (left : ℕ) (st : St) (d : ℕ) → d + left ≡ levels → Fails (SpellingUp st) (spelledIn names s left st)
+  unfolding spelledIn SpellingUp TypeUp Shape-spelling spell-spelling
+  spelled-fails left st d l = fails-last (λ t a. TypeRead names s bytes d st a t) (TypeUp st) (SpellingUp st) (typeIn names s left st) spells (sound-type names s bytes d left l st) (type-fails left st) (λ q u. (spells (u .0), u .1, u .2))
+
+  none-fails : (left : ℕ) (st : St) (e : Place) → Fails (SpellingUp st) (noType left e st)
+  unfolding noType Fails SpellingUp Shape-spelling
+  none-fails zero st e = (no-type, tt, upto-here s (st .at .0) _)
+  none-fails (suc left) st e = tt
+
+  spelling-fails : (left : ℕ) (st : St) (d : ℕ) → d + left ≡ levels → Fails (SpellingUp st) (spellingIn names s left st)
+  unfolding spellingIn
+  spelling-fails left st d l =
+      on-byte s bytes Q (spelledIn names s left st) (st .at) _ (spelled-fails left st d l)
+      (λ k e b x. choose Q k 0x4F _ _ (λ z. none-fails left st e) (spelled-fails left st d l))
+    where
+      Q : Got Spelling → Type 0
+      Q = Fails (SpellingUp st)
+
+  pub DeclUp : St → ℕ → Type 0
+  DeclUp st q = (x : Decl) × Shape-decl names x × UpTo s (st .at .0) q (spell-decl x)
+
+  decl-start : (st : St) → DeclUp st (st .at .0)
+  unfolding DeclUp Shape-decl
+  decl-start st = (plain 0, tt, upto-here s (st .at .0) _)
+
+  decl-by-fails : (left d : ℕ) → suc d + left ≡ levels → (st : St) (h : DeclHead) → DeclSays s (st .at .0) (D.Is h) → Fails (DeclUp st) (declBy names s left st h)
+  unfolding declBy DeclSays Fails DeclUp TypeUp SpellingUp Shape-decl spell-decl
+  decl-by-fails left d l st (Plain e) x = fails-next (DeclUp st) (declareOf e st) _ (declare-faulty (DeclUp st) e st (decl-start st)) (λ t o. tt)
+  decl-by-fails left d l st (Typed e) x =
+      fails-next (DeclUp st) (declareOf e st) _ (declare-faulty (DeclUp st) e st (decl-start st))
+      (λ t o. fails-last (λ u a. TypeRead names s bytes (suc d) t a u) (TypeUp t) (DeclUp st) (typeIn names s left t) (typed (st .at .0)) (sound-type names s bytes (suc d) left l t) (type-fails left t)
+      (λ q u. (typed 0 (u .0), u .1, upto-after s (step-declare s e st t _ o x .0 .stand) (u .2))))
+  decl-by-fails left d l st (Annotated e) x =
+      fails-next (DeclUp st) (declareOf e st) _ (declare-faulty (DeclUp st) e st (decl-start st))
+      (λ t o. fails-last (λ u a. SpellingRead names s bytes (suc d) t a u) (SpellingUp t) (DeclUp st) (spellingIn names s left t) (annotated (st .at .0)) (sound-spelling names s bytes (suc d) left l t) (spelling-fails left t (suc d) l)
+      (λ q u. (annotated 0 (u .0), u .1, upto-after s (step-declare s e st t _ o x .0 .stand) (u .2))))
+
+  decl-fails : (left d : ℕ) → d + left ≡ levels → (st : St) → Fails (DeclUp st) (declAt names s left st)
+  unfolding declAt declIf Fails
+  decl-fails left d l st = go left l (declHead s (st .at)) (decl-says names s bytes (st .at))
+    where
+      go : (left : ℕ) → d + left ≡ levels → (h : DeclAt) → DeclSays s (st .at .0) h → Fails (DeclUp st) (declIf names s left st h)
+      go left l D.Wrong x = decl-start st
+      go zero l (D.Is h) x = decl-start st
+      go (suc left) l (D.Is h) x = decl-by-fails left d (let i : suc d + left ≡ levels = omega arith in i) st h x
+
+  -- a row of declarations, the rest of them plain
+  plains : ℕ → List Decl
+  plains zero = []
+  plains (suc n) = plain 0 ∷ plains n
+
+  plains-good : (n : ℕ) → (decls (plains n) ≡ n) × Shape-decls names (plains n)
+  unfolding plains decls Shape-decls Shape-decl
+  plains-good zero = (refl, tt)
+  plains-good (suc n) = let h = plains-good n in (ap suc (h .0), (tt, h .1))
+
+  pub DeclsUp : ℕ → St → ℕ → Type 0
+  DeclsUp n st q = (xs : List Decl) × (decls xs ≡ n) × Shape-decls names xs × UpTo s (st .at .0) q (spell-decls xs)
+
+  decls-first : (n : ℕ) (st : St) (q : ℕ) → DeclUp st q → DeclsUp (suc n) st q
+  unfolding DeclUp DeclsUp Shape-decls decls spell-decls
+  decls-first n st q u = let h = plains-good n in (u .0 ∷ plains n, ap suc (h .0), (u .1, h .1), upto-first s (u .2) (spell-decls (plains n)))
+
+  decls-later : (d n : ℕ) (st t : St) (a : Decl) (q : ℕ) → DeclRead names s bytes d st a t → DeclsUp n t q → DeclsUp (suc n) st q
+  unfolding DeclsUp Shape-decls decls spell-decls
+  decls-later d n st t a q r w = (a ∷ w .0, ap suc (w .1), (fits-decl names d a (r .fits), w .2), upto-after s (r .step .stand) (w .3))
+
+  decls-fails : (left d : ℕ) → d + left ≡ levels → (n : ℕ) (st : St) → Fails (DeclsUp n st) (declsAt names s left n st)
+  unfolding declsAt
+  decls-fails left d l n st =
+      fails-many [] _∷_ (declAt names s left) (DeclRead names s bytes d) DeclUp DeclsUp (sound-decl names s bytes d left l) (decl-fails left d l) decls-first (decls-later d) n st
+
+  -- ---- expressions and predicates
+
+  pub ExprUp : Bool → St → ℕ → Type 0
+  ExprUp bare st q = (a : Expr) × (bare ≡ true → is-bare a ≡ true) × Shape names a × UpTo s (st .at .0) q (spell a)
+
+  pub PredUp : St → ℕ → Type 0
+  PredUp st q = (a : Pred) × Shape-pred names a × UpTo s (st .at .0) q (spell-pred a)
+
+  expr-start : (bare : Bool) (st : St) → ExprUp bare st (st .at .0)
+  unfolding ExprUp Shape is-bare
+  expr-start bare st = (literal 0, (λ z. refl), tt, upto-here s (st .at .0) _)
+
+  pred-start : (st : St) → PredUp st (st .at .0)
+  unfolding PredUp Shape-pred
+  pred-start st = (constant 0, tt, upto-here s (st .at .0) _)
+
+  pub ExprsUp : ℕ → St → ℕ → Type 0
+  ExprsUp n st q = (es : Exprs) × (exprs es ≡ n) × Shape-all names es × UpTo s (st .at .0) q (spell-all es)
+
+  pub PredsUp : ℕ → St → ℕ → Type 0
+  PredsUp n st q = (qs : Preds) × (preds qs ≡ n) × Shape-preds names qs × UpTo s (st .at .0) q (spell-preds qs)
+
+  -- n literals, n constants
+  literals : ℕ → Exprs
+  literals zero = none
+  literals (suc n) = more (literal 0) (literals n)
+
+  literals-good : (n : ℕ) → (exprs (literals n) ≡ n) × Shape-all names (literals n)
+  unfolding literals exprs Shape-all Shape
+  literals-good zero = (refl, tt)
+  literals-good (suc n) = let h = literals-good n in (ap suc (h .0), (tt, h .1))
+
+  constants : ℕ → Preds
+  constants zero = end
+  constants (suc n) = also (constant 0) (constants n)
+
+  constants-good : (n : ℕ) → (preds (constants n) ≡ n) × Shape-preds names (constants n)
+  unfolding constants preds Shape-preds Shape-pred
+  constants-good zero = (refl, tt)
+  constants-good (suc n) = let h = constants-good n in (ap suc (h .0), (tt, h .1))
+
+  exprs-first : (n : ℕ) (st : St) (q : ℕ) → ExprUp false st q → ExprsUp (suc n) st q
+  unfolding ExprUp ExprsUp Shape-all exprs spell-all
+  exprs-first n st q u = let h = literals-good n in (more (u .0) (literals n), ap suc (h .0), (u .2, h .1), upto-first s (u .3) (spell-all (literals n)))
+
+  exprs-later : (d n : ℕ) (st t : St) (a : Expr) (q : ℕ) → ExprRead names s bytes d false st a t → ExprsUp n t q → ExprsUp (suc n) st q
+  unfolding ExprsUp Shape-all exprs spell-all
+  exprs-later d n st t a q r w = (more a (w .0), ap suc (w .1), (fits-shape a names d (st .opened) (r .fits), w .2), upto-after s (r .step .stand) (w .3))
+
+  preds-first : (n : ℕ) (st : St) (q : ℕ) → PredUp st q → PredsUp (suc n) st q
+  unfolding PredUp PredsUp Shape-preds preds spell-preds
+  preds-first n st q u = let h = constants-good n in (also (u .0) (constants n), ap suc (h .0), (u .1, h .1), upto-first s (u .2) (spell-preds (constants n)))
+
+  preds-later : (d n : ℕ) (st t : St) (a : Pred) (q : ℕ) → PredRead names s bytes d st a t → PredsUp n t q → PredsUp (suc n) st q
+  unfolding PredsUp Shape-preds preds spell-preds
+  preds-later d n st t a q r w = (also a (w .0), ap suc (w .1), (fits-pred a names d (st .opened) (r .fits), w .2), upto-after s (r .step .stand) (w .3))
+
+  -- small facts for the clauses below
+  literal-shape : Shape names (literal 0)
+  unfolding Shape
+  literal-shape = tt
+
+  none-shape : Shape-spelling names no-type
+  unfolding Shape-spelling
+  none-shape = tt
+
+  not-here : (bare : Bool) → bare ≡ false → bare ≡ true → false ≡ true
+  not-here bare h k = sym h ∙ k
+
+  type-below : {d : ℕ} {st t : St} {a : Ty} → TypeRead names s bytes d st a t → T.Below names a
+  unfolding Fits-ty
+  type-below r = r .fits .1
+
+  -- one record, where X and Q read those below it
+  module _ (d left : ℕ) (l : suc d + left ≡ levels) (X : Bool → St → Got Expr) (Q : St → Got Pred)
+      (hX : (b : Bool) (t : St) → Holds (λ u a. ExprRead names s bytes (suc d) b t a u) (X b t)) (hQ : (t : St) → Holds (λ u a. PredRead names s bytes (suc d) t a u) (Q t))
+      (fX : (b : Bool) (t : St) → Fails (ExprUp b t) (X b t)) (fQ : (t : St) → Fails (PredUp t) (Q t)) (st : St) where
+    all-fails : (n : ℕ) (t : St) → Fails (ExprsUp n t) (many none more (X false) n t)
+    all-fails n t = fails-many none more (X false) (ExprRead names s bytes (suc d) false) (ExprUp false) ExprsUp (hX false) (fX false) exprs-first (exprs-later (suc d)) n t
+
+    preds-fails : (n : ℕ) (t : St) → Fails (PredsUp n t) (many end also Q n t)
+    preds-fails n t = fails-many end also Q (PredRead names s bytes (suc d)) PredUp PredsUp hQ fQ preds-first (preds-later (suc d)) n t
+
+    shape-of : {b : Bool} {t u : St} {a : Expr} → ExprRead names s bytes (suc d) b t a u → Shape names a
+    shape-of {t = t} {a = a} r = fits-shape a names (suc d) (t .opened) (r .fits)
+
+    shape-pred-of : {t u : St} {a : Pred} → PredRead names s bytes (suc d) t a u → Shape-pred names a
+    shape-pred-of {t = t} {a = a} r = fits-pred a names (suc d) (t .opened) (r .fits)
+
+    expr-by-fails : (bare : Bool) (h : ExprHead) → ExprSays names s bare (st .at .0) (E.Is h) → Fails (ExprUp bare st) (exprBy names s left X Q st h)
+    unfolding exprBy ExprSays Fails ExprUp PredUp ExprsUp DeclsUp SpellingUp TypeUp Shape spell is-bare
+    expr-by-fails bare (Free n e) x = fails-next (ExprUp bare st) (ownOf e st) _ (own-faulty (ExprUp bare st) e st (expr-start bare st))
+        (λ t o. tt)
+    expr-by-fails bare (Bound i e) x = fails-next (ExprUp bare st) (ownOf e st) _ (own-faulty (ExprUp bare st) e st (expr-start bare st))
+        (λ t o. tt)
+    expr-by-fails bare (Literal e) x = fails-next (ExprUp bare st) (ownOf e st) _ (own-faulty (ExprUp bare st) e st (expr-start bare st))
+        (λ t o. tt)
+    expr-by-fails bare (Atomic c e) x = fails-next (ExprUp bare st) (ownOf e st) _ (own-faulty (ExprUp bare st) e st (expr-start bare st))
+        (λ t o. tt)
+    expr-by-fails bare (Extension n e) x =
+        fails-next (ExprUp bare st) (ownOf e st) _ (own-faulty (ExprUp bare st) e st (expr-start bare st))
+        (λ t o. fails-last (λ u a. ExprsRead names s bytes (suc d) n t a u) (ExprsUp n t) (ExprUp bare st) (many none more (X false) n t) (extension (st .at .0)) (all-read names s bytes d left l X Q hX hQ st n t) (all-fails n t)
+        (λ q u. (extension 0 (u .0), (λ z. refl), (rw (u .1) (x .0), u .2), rw (u .1) (upto-after s (step-own s e st t _ o (x .1) .stand) (u .3)))))
+    expr-by-fails bare (Truth e) x =
+        fails-next (ExprUp bare st) (ownOf e st) _ (own-faulty (ExprUp bare st) e st (expr-start bare st))
+        (λ t o. fails-last (λ u a. PredRead names s bytes (suc d) t a u) (PredUp t) (ExprUp bare st) (Q t) (truth (st .at .0)) (hQ t) (fQ t)
+        (λ q u. (truth 0 (u .0), (λ z. refl), u .1, upto-after s (step-own s e st t _ o x .stand) (u .2))))
+    expr-by-fails bare (Binary c e) x =
+        fails-next (ExprUp bare st) (ownOf e st) _ (own-faulty (ExprUp bare st) e st (expr-start bare st))
+        (λ t o. fails-then (λ u a. ExprRead names s bytes (suc d) false t a u) (ExprUp false t) (ExprUp bare st) (X false t) _ (hX false t) (fX false t)
+        (λ q u. (binary 0 c (u .0) (literal 0), (λ z. refl), (x .0, u .2, tt), upto-after s (step-own s e st t _ o (x .1) .stand) (upto-first s (u .3) (0x03 ∷ []))))
+        (λ a v r. fails-last (λ u b. ExprRead names s bytes (suc d) false v b u) (ExprUp false v) (ExprUp bare st) (X false v) (binary (st .at .0) c a) (hX false v) (fX false v)
+        (λ q u. (binary 0 c a (u .0), (λ z. refl), (x .0, shape-of r, u .2), upto-after s (step-own s e st t _ o (x .1) .stand) (upto-after s (r .step .stand) (u .3))))))
+    expr-by-fails bare (Associative c n e) x =
+        fails-next (ExprUp bare st) (ownOf e st) _ (own-faulty (ExprUp bare st) e st (expr-start bare st))
+        (λ t o. fails-last (λ u a. ExprsRead names s bytes (suc d) n t a u) (ExprsUp n t) (ExprUp bare st) (many none more (X false) n t) (associative (st .at .0) c) (all-read names s bytes d left l X Q hX hQ st n t) (all-fails n t)
+        (λ q u. (associative 0 c (u .0), (λ z. refl), (x .0, rw (u .1) (x .1), u .2), rw (u .1) (upto-after s (step-own s e st t _ o (x .2) .stand) (u .3)))))
+    expr-by-fails bare (Unary c e) x =
+        fails-next (ExprUp bare st) (ownOf e st) _ (own-faulty (ExprUp bare st) e st (expr-start bare st))
+        (λ t o. fails-last (λ u a. ExprRead names s bytes (suc d) false t a u) (ExprUp false t) (ExprUp bare st) (X false t) (unary (st .at .0) c) (hX false t) (fX false t)
+        (λ q u. (unary 0 c (u .0), (λ z. refl), (x .0, u .2), upto-after s (step-own s e st t _ o (x .1) .stand) (u .3))))
+    expr-by-fails bare (Quantified c n e) x =
+        fails-closing (ExprUp bare st) (st .opened) (onNext (ownOf e st) _)
+        (fails-next (ExprUp bare st) (ownOf e st) _ (own-faulty (ExprUp bare st) e st (expr-start bare st))
+        (λ t o. fails-then (λ u a. DeclsRead names s bytes (suc d) n t a u) (DeclsUp n t) (ExprUp bare st) (declsAt names s left n t) _ (sound-decls names s bytes (suc d) left l n t) (decls-fails left (suc d) l n t)
+        (λ q u. (quantified 0 c (u .0) (constant 0) (literal 0), (λ z. refl), (x .0, rw (u .1) (x .1), u .2, tt, tt), rw (u .1) (upto-after s (step-own s e st t _ o (x .2) .stand) (upto-first s (u .3) (0x20 ∷ 0x03 ∷ [])))))
+        (λ ds v g. fails-then (λ u b. PredRead names s bytes (suc d) v b u) (PredUp v) (ExprUp bare st) (Q v) _ (hQ v) (fQ v)
+        (λ q u. (quantified 0 c ds (u .0) (literal 0), (λ z. refl), (x .0, rw (g .count) (x .1), fits-decls names (suc d) ds (g .fits), u .1, tt), rw (g .count) (upto-after s (step-own s e st t _ o (x .2) .stand) (upto-after s (g .step .stand) (upto-first s (u .2) (0x03 ∷ []))))))
+        (λ b w r. fails-last (λ u a. ExprRead names s bytes (suc d) false w a u) (ExprUp false w) (ExprUp bare st) (X false w) (quantified (st .at .0) c ds b) (hX false w) (fX false w)
+        (λ q u. (quantified 0 c ds b (u .0), (λ z. refl), (x .0, rw (g .count) (x .1), fits-decls names (suc d) ds (g .fits), shape-pred-of r, u .2), rw (g .count) (upto-after s (step-own s e st t _ o (x .2) .stand) (upto-after s (g .step .stand) (upto-after s (r .step .stand) (u .3))))))))))
+    expr-by-fails bare (Ascribed e) x =
+        fails-next (ExprUp bare st) (ownOf e st) _ (own-faulty (ExprUp bare st) e st (expr-start bare st))
+        (λ t o. fails-then (λ u a. ExprRead names s bytes (suc d) false t a u) (ExprUp false t) (ExprUp bare st) (X false t) _ (hX false t) (fX false t)
+        (λ q u. (ascribed 0 (u .0) 0 no-type, (λ z. refl), (u .2, none-shape), upto-after s (step-own s e st t _ o x .stand) (upto-first s (u .3) _)))
+        (λ a v r. fails-then (λ u b. SpellingRead names s bytes (suc d) v b u) (SpellingUp v) (ExprUp bare st) (spellingIn names s left v) _ (sound-spelling names s bytes (suc d) left l v) (spelling-fails left v (suc d) l)
+        (λ q u. (ascribed 0 a 0 (u .0), (λ z. refl), (shape-of r, u .1), upto-after s (step-own s e st t _ o x .stand) (upto-after s (r .step .stand) (u .2)))) (λ b w q. tt)))
+    expr-by-fails bare (Explicit e) x =
+        fails-then (λ t a. TypeRead names s bytes (suc d) (moved e st) a t) (TypeUp (moved e st)) (ExprUp bare st) (typeIn names s left (moved e st)) _ (sound-type names s bytes (suc d) left l (moved e st)) (type-fails left (moved e st))
+        (λ q u. (explicit 0 (u .0) (literal 0), not-here bare (x .0), (u .1, refl, tt), upto-after s (step-moved s st _ e (x .1) .stand) (upto-first s (u .2) (0x03 ∷ []))))
+        (λ a t r. fails-last (λ u b. ExprRead names s bytes (suc d) true t b u) (ExprUp true t) (ExprUp bare st) (X true t) (explicit (st .at .0) a) (hX true t) (fX true t)
+        (λ q u. (explicit 0 a (u .0), not-here bare (x .0), (type-below r, u .1 refl, u .2), upto-after s (step-moved s st _ e (x .1) .stand) (upto-after s (r .step .stand) (u .3)))))
+
+    pred-by-fails : (h : PredHead) → PredSays s (st .at .0) (P.Is h) → Fails (PredUp st) (predBy names s left X Q st h)
+    unfolding predBy PredSays Fails ExprUp PredUp ExprsUp PredsUp DeclsUp Shape-pred spell-pred
+    pred-by-fails (Constant e) x = tt
+    pred-by-fails (Variable e) x = tt
+    pred-by-fails (Relational c e) x =
+        fails-then (λ u a. ExprRead names s bytes (suc d) false (moved e st) a u) (ExprUp false (moved e st)) (PredUp st) (X false (moved e st)) _ (hX false (moved e st)) (fX false (moved e st))
+        (λ q u. (relational 0 c (u .0) (literal 0), (x .0, u .2, literal-shape), upto-after s (step-moved s st _ e (x .1) .stand) (upto-first s (u .3) _)))
+        (λ a v r. fails-last (λ u b. ExprRead names s bytes (suc d) false v b u) (ExprUp false v) (PredUp st) (X false v) (relational (st .at .0) c a) (hX false v) (fX false v)
+        (λ q u. (relational 0 c a (u .0), (x .0, shape-of r, u .2), upto-after s (step-moved s st _ e (x .1) .stand) (upto-after s (r .step .stand) (u .3)))))
+    pred-by-fails (Connective e) x =
+        fails-then (λ u a. PredRead names s bytes (suc d) (moved e st) a u) (PredUp (moved e st)) (PredUp st) (Q (moved e st)) _ (hQ (moved e st)) (fQ (moved e st))
+        (λ q u. (connective 0 (u .0) (constant 0), (u .1, tt), upto-after s (step-moved s st _ e x .stand) (upto-first s (u .2) (0x20 ∷ []))))
+        (λ a v r. fails-last (λ u b. PredRead names s bytes (suc d) v b u) (PredUp v) (PredUp st) (Q v) (connective (st .at .0) a) (hQ v) (fQ v)
+        (λ q u. (connective 0 a (u .0), (shape-pred-of r, u .1), upto-after s (step-moved s st _ e x .stand) (upto-after s (r .step .stand) (u .2)))))
+    pred-by-fails (Junction n e) x =
+        fails-last (λ u a. PredsRead names s bytes (suc d) n (moved e st) a u) (PredsUp n (moved e st)) (PredUp st) (many end also Q n (moved e st)) (junction (st .at .0)) (preds-read names s bytes d left l X Q hX hQ st n (moved e st)) (preds-fails n (moved e st))
+        (λ q u. (junction 0 (u .0), (rw (u .1) (x .0), u .2), rw (u .1) (upto-after s (step-moved s st _ e (x .1) .stand) (u .3))))
+    pred-by-fails (Negation e) x =
+        fails-last (λ u a. PredRead names s bytes (suc d) (moved e st) a u) (PredUp (moved e st)) (PredUp st) (Q (moved e st)) (negation (st .at .0)) (hQ (moved e st)) (fQ (moved e st))
+        (λ q u. (negation 0 (u .0), u .1, upto-after s (step-moved s st _ e x .stand) (u .2)))
+    pred-by-fails (Quantification n e) x =
+        fails-closing (PredUp st) (st .opened) (andThen (declsAt names s left n (moved e st)) _)
+        (fails-then (λ u a. DeclsRead names s bytes (suc d) n (moved e st) a u) (DeclsUp n (moved e st)) (PredUp st) (declsAt names s left n (moved e st)) _ (sound-decls names s bytes (suc d) left l n (moved e st)) (decls-fails left (suc d) l n (moved e st))
+        (λ q u. (quantification 0 (u .0) (constant 0), (rw (u .1) (x .0), u .2, tt), rw (u .1) (upto-after s (step-moved s st _ e (x .1) .stand) (upto-first s (u .3) (0x20 ∷ [])))))
+        (λ ds v g. fails-last (λ u b. PredRead names s bytes (suc d) v b u) (PredUp v) (PredUp st) (Q v) (quantification (st .at .0) ds) (hQ v) (fQ v)
+        (λ q u. (quantification 0 ds (u .0), (rw (g .count) (x .0), fits-decls names (suc d) ds (g .fits), u .1), rw (g .count) (upto-after s (step-moved s st _ e (x .1) .stand) (upto-after s (g .step .stand) (u .2)))))))
+    pred-by-fails (Simple e) x =
+        fails-last (λ u a. ExprRead names s bytes (suc d) false (moved e st) a u) (ExprUp false (moved e st)) (PredUp st) (X false (moved e st)) (simple (st .at .0)) (hX false (moved e st)) (fX false (moved e st))
+        (λ q u. (simple 0 (u .0), u .2, upto-after s (step-moved s st _ e x .stand) (u .3)))
+    pred-by-fails (Multiple n e) x =
+        fails-last (λ u a. ExprsRead names s bytes (suc d) n (moved e st) a u) (ExprsUp n (moved e st)) (PredUp st) (many none more (X false) n (moved e st)) (multiple (st .at .0)) (all-read names s bytes d left l X Q hX hQ st n (moved e st)) (all-fails n (moved e st))
+        (λ q u. (multiple 0 (u .0), (rw (u .1) (x .0), u .2), rw (u .1) (upto-after s (step-moved s st _ e (x .1) .stand) (u .3))))
+    pred-by-fails (Application n e) x =
+        fails-last (λ u a. ExprsRead names s bytes (suc d) n (moved e st) a u) (ExprsUp n (moved e st)) (PredUp st) (many none more (X false) n (moved e st)) (application (st .at .0)) (all-read names s bytes d left l X Q hX hQ st n (moved e st)) (all-fails n (moved e st))
+        (λ q u. (application 0 (u .0), u .2, rw (u .1) (upto-after s (step-moved s st _ e x .stand) (u .3))))
+
+    expr-if-fails : (bare : Bool) (h : ExprAt) → ExprSays names s bare (st .at .0) h → Fails (ExprUp bare st) (exprIf names s left X Q st h)
+    unfolding exprIf Fails
+    expr-if-fails bare E.Wrong x = expr-start bare st
+    expr-if-fails bare (E.Is h) x = expr-by-fails bare h x
+
+    pred-if-fails : (h : PredAt) → PredSays s (st .at .0) h → Fails (PredUp st) (predIf names s left X Q st h)
+    unfolding predIf Fails
+    pred-if-fails P.Wrong x = pred-start st
+    pred-if-fails (P.Is h) x = pred-by-fails h x
+
+  expr-deep-fails : (bare : Bool) (st : St) (h : ExprAt) → Fails (ExprUp bare st) (exprDeep st h)
+  unfolding exprDeep Fails
+  expr-deep-fails bare st E.Wrong = expr-start bare st
+  expr-deep-fails bare st (E.Is h) = expr-start bare st
+
+  pred-deep-fails : (st : St) (h : PredAt) → Fails (PredUp st) (predDeep st h)
+  unfolding predDeep Fails
+  pred-deep-fails st P.Wrong = pred-start st
+  pred-deep-fails st (P.Is h) = pred-start st
+
+  mutual
+    unfolding exprAt predAt
+
+    pub expr-fails : (left d : ℕ) → d + left ≡ levels → (bare : Bool) (st : St) → Fails (ExprUp bare st) (exprAt left names s bare st)
+    expr-fails zero d l bare st = expr-deep-fails bare st (exprHead names s bare (st .at))
+    expr-fails (suc left) d l bare st =
+        expr-if-fails d left (let i : suc d + left ≡ levels = omega arith in i) (λ b t. exprAt left names s b t) (λ t. predAt left names s t)
+        (λ b t. sound-expr names s bytes left (suc d) (let i : suc d + left ≡ levels = omega arith in i) b t) (λ t. sound-pred names s bytes left (suc d) (let i : suc d + left ≡ levels = omega arith in i) t)
+        (λ b t. expr-fails left (suc d) (let i : suc d + left ≡ levels = omega arith in i) b t) (λ t. pred-fails left (suc d) (let i : suc d + left ≡ levels = omega arith in i) t)
+        st bare (exprHead names s bare (st .at)) (expr-says names s bytes bare (st .at))
+
+    pub pred-fails : (left d : ℕ) → d + left ≡ levels → (st : St) → Fails (PredUp st) (predAt left names s st)
+    pred-fails zero d l st = pred-deep-fails st (predHead s (st .at))
+    pred-fails (suc left) d l st =
+        pred-if-fails d left (let i : suc d + left ≡ levels = omega arith in i) (λ b t. exprAt left names s b t) (λ t. predAt left names s t)
+        (λ b t. sound-expr names s bytes left (suc d) (let i : suc d + left ≡ levels = omega arith in i) b t) (λ t. sound-pred names s bytes left (suc d) (let i : suc d + left ≡ levels = omega arith in i) t)
+        (λ b t. expr-fails left (suc d) (let i : suc d + left ≡ levels = omega arith in i) b t) (λ t. pred-fails left (suc d) (let i : suc d + left ≡ levels = omega arith in i) t)
+        st (predHead s (st .at)) (pred-says names s bytes (st .at))
