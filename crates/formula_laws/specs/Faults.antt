@@ -316,6 +316,10 @@ module _ (names : ℕ) (s : List ℕ) (bytes : (i : ℕ) → getD s i 0 < 256) w
   unfolding Shape
   literal-shape = tt
 
+  constant-shape : Shape-pred names (constant 0)
+  unfolding Shape-pred
+  constant-shape = tt
+
   none-shape : Shape-spelling names no-type
   unfolding Shape-spelling
   none-shape = tt
@@ -470,3 +474,153 @@ module _ (names : ℕ) (s : List ℕ) (bytes : (i : ℕ) → getD s i 0 < 256) w
         (λ b t. sound-expr names s bytes left (suc d) (let i : suc d + left ≡ levels = omega arith in i) b t) (λ t. sound-pred names s bytes left (suc d) (let i : suc d + left ≡ levels = omega arith in i) t)
         (λ b t. expr-fails left (suc d) (let i : suc d + left ≡ levels = omega arith in i) b t) (λ t. pred-fails left (suc d) (let i : suc d + left ≡ levels = omega arith in i) t)
         st (predHead s (st .at)) (pred-says names s bytes (st .at))
+
+  -- ---- formulas, where a name is known
+
+  module _ (some : 0 < names) where
+    zeroth : Target
+    zeroth = record { place = 0; name = 0 }
+
+    pub TargetUp : St → ℕ → Type 0
+    TargetUp st q = (a : Target) × (a .name < names) × UpTo s (st .at .0) q (spell-target a)
+
+    target-start : (st : St) → TargetUp st (st .at .0)
+    unfolding TargetUp
+    target-start st = (record { place = 0; name = 0 }, some, upto-here s (st .at .0) _)
+
+    target-fails : (st : St) → Fails (TargetUp st) (targetIn names s st)
+    unfolding targetIn targetBy Fails
+    target-fails st = go (targetAt names s (st .at))
+      where
+        go : (w : Word) → Fails (TargetUp st) (targetBy st w)
+        go W.Missing = target-start st
+        go (W.Of n e) = fails-next (TargetUp st) (ownOf e st) _ (own-faulty (TargetUp st) e st (target-start st)) (λ t o. tt)
+
+    -- n targets that are the first name, n pairs of it and a literal
+    zeroths : ℕ → List Target
+    zeroths zero = []
+    zeroths (suc n) = record { place = 0; name = 0 } ∷ zeroths n
+
+    zeroths-good : (n : ℕ) → (targets (zeroths n) ≡ n) × Shape-targets names (zeroths n)
+    unfolding zeroths targets Shape-targets
+    zeroths-good zero = (refl, tt)
+    zeroths-good (suc n) = let h = zeroths-good n in (ap suc (h .0), (some, h .1))
+
+    pub TargetsUp : ℕ → St → ℕ → Type 0
+    TargetsUp n st q = (ts : List Target) × (targets ts ≡ n) × Shape-targets names ts × UpTo s (st .at .0) q (spell-targets ts)
+
+    targets-first : (n : ℕ) (st : St) (q : ℕ) → TargetUp st q → TargetsUp (suc n) st q
+    unfolding TargetUp TargetsUp Shape-targets targets spell-targets
+    targets-first n st q u = let h = zeroths-good n in (u .0 ∷ zeroths n, ap suc (h .0), (u .1, h .1), upto-first s (u .2) (spell-targets (zeroths n)))
+
+    targets-later : (n : ℕ) (st t : St) (a : Target) (q : ℕ) → TargetRead names s bytes st a t → TargetsUp n t q → TargetsUp (suc n) st q
+    unfolding TargetsUp Shape-targets targets spell-targets
+    targets-later n st t a q r w = (a ∷ w .0, ap suc (w .1), (r .fits, w .2), upto-after s (r .step .stand) (w .3))
+
+    targets-fails : (n : ℕ) (st : St) → Fails (TargetsUp n st) (targetsAt names s n st)
+    unfolding targetsAt
+    targets-fails n st = fails-many [] _∷_ (targetIn names s) (TargetRead names s bytes) TargetUp TargetsUp (sound-target names s bytes) target-fails targets-first targets-later n st
+
+    pub PairUp : St → ℕ → Type 0
+    PairUp st q = (a : Target × Expr) × (a .0 .name < names) × Shape names (a .1) × UpTo s (st .at .0) q (spell-target (a .0) ++ spell (a .1))
+
+    pair-fails : (st : St) → Fails (PairUp st) (pairIn max-depth names s st)
+    unfolding pairIn PairUp TargetUp ExprUp
+    pair-fails st =
+        fails-then (λ t a. TargetRead names s bytes st a t) (TargetUp st) (PairUp st) (targetIn names s st) _ (sound-target names s bytes st) (target-fails st)
+        (λ q u. ((u .0, literal 0), u .1, literal-shape, upto-first s (u .2) (spell (literal 0))))
+        (λ a t r. fails-last (λ u b. ExprRead names s bytes 1 false t b u) (ExprUp false t) (PairUp st) (exprAt max-depth names s false t) (λ b. (a, b)) (sound-expr names s bytes max-depth 1 refl false t) (expr-fails max-depth 1 refl false t)
+        (λ q u. ((a, u .0), r .fits, u .2, upto-after s (r .step .stand) (u .3))))
+
+    pairs-of : ℕ → List (Target × Expr)
+    pairs-of zero = []
+    pairs-of (suc n) = (record { place = 0; name = 0 }, literal 0) ∷ pairs-of n
+
+    pairs-of-good : (n : ℕ) → (pairs (pairs-of n) ≡ n) × Shape-pairs names (pairs-of n)
+    unfolding pairs-of pairs Shape-pairs
+    pairs-of-good zero = (refl, tt)
+    pairs-of-good (suc n) = let h = pairs-of-good n in (ap suc (h .0), (some, literal-shape, h .1))
+
+    pub PairsUp : ℕ → St → ℕ → Type 0
+    PairsUp n st q = (xs : List (Target × Expr)) × (pairs xs ≡ n) × Shape-pairs names xs × UpTo s (st .at .0) q (spell-pairs xs)
+
+    same-row : (x y z : List ℕ) → x ++ (y ++ z) ≡ (x ++ y) ++ z
+    same-row x y z = sym (append-assoc x y z)
+
+    pairs-first : (n : ℕ) (st : St) (q : ℕ) → PairUp st q → PairsUp (suc n) st q
+    unfolding PairUp PairsUp Shape-pairs pairs spell-pairs
+    pairs-first n st q u =
+        let h = pairs-of-good n in
+        (u .0 ∷ pairs-of n, ap suc (h .0), (u .1, u .2, h .1), rw (same-row (spell-target (u .0 .0)) (spell (u .0 .1)) (spell-pairs (pairs-of n))) (upto-first s (u .3) (spell-pairs (pairs-of n))))
+
+    pairs-later : (n : ℕ) (st t : St) (a : Target × Expr) (q : ℕ) → PairRead names s bytes st a t → PairsUp n t q → PairsUp (suc n) st q
+    unfolding PairsUp Shape-pairs pairs spell-pairs
+    pairs-later n st t a q r w =
+        (a ∷ w .0, ap suc (w .1), (r .target-fits, fits-shape (a .1) names 1 (st .opened) (r .fits), w .2), rw (same-row (spell-target (a .0)) (spell (a .1)) (spell-pairs (w .0))) (upto-after s (r .step .stand) (w .3)))
+
+    pairs-fails : (n : ℕ) (st : St) → Fails (PairsUp n st) (pairsAt max-depth names s n st)
+    unfolding pairsAt
+    pairs-fails n st = fails-many [] _∷_ (pairIn max-depth names s) (PairRead names s bytes) PairUp PairsUp (sound-pair names s bytes) pair-fails pairs-first pairs-later n st
+
+    pub FormulaUp : St → ℕ → Type 0
+    FormulaUp st q = (a : Formula) × Shape-formula names a × UpTo s (st .at .0) q (spell-formula a)
+
+    formula-start : (st : St) → FormulaUp st (st .at .0)
+    unfolding FormulaUp Shape-formula Shape-pred
+    formula-start st = (predicate (constant 0), tt, upto-here s (st .at .0) _)
+
+    module _ (st : St) where
+      becomes-by-fails : (n : ℕ) (e : Place) (k : ℕ) → Stand s (st .at .0) (k ∷ n ∷ []) (e .0) → Fails (FormulaUp st) (becomesBy max-depth names s n e st k)
+      unfolding becomesBy Fails FormulaUp PairsUp TargetUp TargetsUp DeclsUp ExprUp PredUp Shape-formula spell-formula
+      becomes-by-fails zero e k x = formula-start st
+      becomes-by-fails (suc n) e k x =
+          choose S k 0x30 _ _
+          (λ h. fails-last (λ u a. Unit {0}) (PairsUp (suc n) (moved e st)) (FormulaUp st) (pairsAt max-depth names s (suc n) (moved e st)) (becomes (st .at .0)) (holds-any (pairsAt max-depth names s (suc n) (moved e st))) (pairs-fails (suc n) (moved e st))
+          (λ q u. (becomes 0 (u .0), (least (u .1), u .2), rw (u .1) (upto-after s (head 0x30 h) (u .3)))))
+          (choose S k 0x31 _ _
+          (λ h. fails-then (λ u a. TargetRead names s bytes (moved e st) a u) (TargetUp (moved e st)) (FormulaUp st) (targetIn names s (moved e st)) _ (sound-target names s bytes (moved e st)) (target-fails (moved e st))
+          (λ q u. let z = zeroths-good n in (becomes-in 0 (u .0) (zeroths n) (literal 0), (u .1, z .1, literal-shape), rw (z .0) (upto-after s (head 0x31 h) (upto-first s (u .2) (spell-targets (zeroths n) ++ spell (literal 0))))))
+          (λ a v r. fails-then (λ u b. TargetsRead names s bytes n v b u) (TargetsUp n v) (FormulaUp st) (targetsAt names s n v) _ (sound-targets names s bytes n v) (targets-fails n v)
+          (λ q u. (becomes-in 0 a (u .0) (literal 0), (r .fits, u .2, literal-shape), rw (u .1) (upto-after s (head 0x31 h) (upto-after s (r .step .stand) (upto-first s (u .3) (spell (literal 0)))))))
+          (λ b w g. fails-last (λ u f. ExprRead names s bytes 1 false w f u) (ExprUp false w) (FormulaUp st) (exprAt max-depth names s false w) (becomes-in (st .at .0) a b) (sound-expr names s bytes max-depth 1 refl false w) (expr-fails max-depth 1 refl false w)
+          (λ q u. (becomes-in 0 a b (u .0), (r .fits, fits-targets names b (g .fits), u .2), rw (g .count) (upto-after s (head 0x31 h) (upto-after s (r .step .stand) (upto-after s (g .step .stand) (u .3)))))))))
+          (choose S k 0x32 _ _
+          (λ h. fails-then (λ u a. TargetsRead names s bytes (suc n) (moved e st) a u) (TargetsUp (suc n) (moved e st)) (FormulaUp st) (targetsAt names s (suc n) (moved e st)) _ (sound-targets names s bytes (suc n) (moved e st)) (targets-fails (suc n) (moved e st))
+          (λ q u. let z = plains-good (suc n) in (becomes-such 0 (u .0) (plains (suc n)) (constant 0), (least (u .1), u .1 ∙ sym (z .0), u .2, z .1, constant-shape), rw (u .1) (upto-after s (head 0x32 h) (upto-first s (u .3) (spell-decls (plains (suc n)) ++ spell-pred (constant 0))))))
+          (λ a v r. fails-then (λ u b. DeclsRead names s bytes 1 (suc n) v b u) (DeclsUp (suc n) v) (FormulaUp st) (declsAt names s max-depth (suc n) v) _ (sound-decls names s bytes 1 max-depth refl (suc n) v) (decls-fails max-depth 1 refl (suc n) v)
+          (λ q u. (becomes-such 0 a (u .0) (constant 0), (least (r .count), r .count ∙ sym (u .1), fits-targets names a (r .fits), u .2, constant-shape), rw (r .count) (upto-after s (head 0x32 h) (upto-after s (r .step .stand) (upto-first s (u .3) (spell-pred (constant 0)))))))
+          (λ b w g. fails-last (λ u f. PredRead names s bytes 1 w f u) (PredUp w) (FormulaUp st) (predAt max-depth names s w) (becomes-such (st .at .0) a b) (sound-pred names s bytes max-depth 1 refl w) (pred-fails max-depth 1 refl w)
+          (λ q u. (becomes-such 0 a b (u .0), (least (r .count), r .count ∙ sym (g .count), fits-targets names a (r .fits), fits-decls names 1 b (g .fits), u .1), rw (r .count) (upto-after s (head 0x32 h) (upto-after s (r .step .stand) (upto-after s (g .step .stand) (u .2))))))))) (formula-start st)))
+        where
+          S : Got Formula → Type 0
+          S = Fails (FormulaUp st)
+
+          head : (v : ℕ) → k ≡ v → Stand s (st .at .0) (v ∷ suc n ∷ []) (moved e st .at .0)
+          head v h = step-moved s st (v ∷ suc n ∷ []) e (rw h at x) .stand
+
+          least : {m : ℕ} → m ≡ suc n → 1 ≤ m
+          least h = omega arith
+
+      becomes-at-fails : (k : ℕ) (q : Place) → Stand s (st .at .0) (k ∷ []) (q .0) → Fails (FormulaUp st) (becomesAt names s st k q)
+      unfolding becomesAt Fails
+      becomes-at-fails k q x = on-few s bytes (Fails (FormulaUp st)) (bad (Malformed (st .at))) q _ (formula-start st) (λ n e l y. becomes-by-fails n e k (stand-join s (st .at .0) (q .0) (e .0) (k ∷ []) (n ∷ []) x y))
+
+      root-by-fails : (k : ℕ) (q : Place) → Stand s (st .at .0) (k ∷ []) (q .0) → Fails (FormulaUp st) (rootBy names s st k q)
+      unfolding rootBy FormulaUp ExprUp PredUp Shape-formula spell-formula
+      root-by-fails k q x = go (ltb k 0x20) (ltb k 0x30)
+        where
+          as-expr : Fails (FormulaUp st) (andThen (exprAt levels names s false st) λ a st₁. ok st₁ (expression a))
+          as-expr = fails-last (λ u a. ExprRead names s bytes 0 false st a u) (ExprUp false st) (FormulaUp st) (exprAt levels names s false st) expression (sound-expr names s bytes levels 0 refl false st) (expr-fails levels 0 refl false st) (λ q u. (expression (u .0), u .2, u .3))
+
+          as-pred : Fails (FormulaUp st) (andThen (predAt levels names s st) λ q st₁. ok st₁ (predicate q))
+          as-pred = fails-last (λ u a. PredRead names s bytes 0 st a u) (PredUp st) (FormulaUp st) (predAt levels names s st) predicate (sound-pred names s bytes levels 0 refl st) (pred-fails levels 0 refl st) (λ q u. (predicate (u .0), u .1, u .2))
+
+          go : (b c : Bool) → Fails (FormulaUp st) (pick b (andThen (exprAt levels names s false st) λ a st₁. ok st₁ (expression a)) (pick c (andThen (predAt levels names s st) λ q st₁. ok st₁ (predicate q)) (becomesAt names s st k q)))
+          go true true = as-expr
+          go true false = as-expr
+          go false true = as-pred
+          go false false = becomes-at-fails k q x
+
+      pub formula-fails : Fails (FormulaUp st) (formulaAt names s st)
+      unfolding formulaAt Fails
+      formula-fails = on-byte s bytes (Fails (FormulaUp st)) (bad (Malformed (st .at))) (st .at) (rootBy names s st) (formula-start st) (λ k q l x. root-by-fails k q x)
