@@ -160,7 +160,7 @@ fill-word (TF.first w) = let h = fill-word w in (h .0 ++ (0x41 ∷ []), ap (λ (
 fill-word (TF.second t w) = let h = fill-word w in (h .0, ap (λ (x : List ℕ). 0x44 ∷ x) (ap (λ (x : List ℕ). T.spell t ++ x) (h .1) ∙ sym (append-assoc (T.spell t) (TF.before w) (h .0))))
 
 module _ (names : ℕ) (s : List ℕ) (bytes : (i : ℕ) → getD s i 0 < 256) where
-  pub TypeUp : St → ℕ → Type 0
+  unfoldable pub TypeUp : St → ℕ → Type 0
   TypeUp st q = (t : Ty) × T.Below names t × UpTo s (st .at .0) q (T.spell t)
 
   lead-up : (left : ℕ) (st : St) (q : ℕ) → Leads left names s (st .at .0) q → TypeUp st q
@@ -562,7 +562,7 @@ module _ (names : ℕ) (s : List ℕ) (bytes : (i : ℕ) → getD s i 0 < 256) w
     unfolding pairsAt
     pairs-fails n st = fails-many [] _∷_ (pairIn max-depth names s) (PairRead names s bytes) PairUp PairsUp (sound-pair names s bytes) pair-fails pairs-first pairs-later n st
 
-    pub FormulaUp : St → ℕ → Type 0
+    unfoldable pub FormulaUp : St → ℕ → Type 0
     FormulaUp st q = (a : Formula) × Shape-formula names a × UpTo s (st .at .0) q (spell-formula a)
 
     formula-start : (st : St) → FormulaUp st (st .at .0)

@@ -9,3 +9,4 @@ pub mod Numbers
 pub mod Cases
 pub mod Shape
 pub mod Faults
+pub mod FaultPlace
