@@ -52,7 +52,7 @@ differs e es n h = go (eqb (e .0) n) refl h
     go true k h = absurd (let z : _≡_ {A = ℕ} 0 1 = cc in omega arith)
     go false k h = (eqb-false (e .0) n k, h)
 
-distinct-last : (es : Entries) (n : ℕ) (t : Ty) → Distinct es → lookup es n ≡ lacks → Distinct (es ++ ((n, t) ∷ []))
+pub distinct-last : (es : Entries) (n : ℕ) (t : Ty) → Distinct es → lookup es n ≡ lacks → Distinct (es ++ ((n, t) ∷ []))
 unfolding Distinct lookup
 distinct-last [] n t d h = (refl, tt)
 distinct-last (e ∷ es) n t d h =
@@ -71,11 +71,11 @@ before-lacks (x ∷ es) e fs d = rw (ne-eqb (x .0) (e .0) (away es e fs (x .0) (
 
 -- ---- an entry's head
 
-unfoldable EntrySays : ℕ → List ℕ → ℕ → Word → Type 0
+unfoldable pub EntrySays : ℕ → List ℕ → ℕ → Word → Type 0
 EntrySays names s p W.Missing = Unit {0}
 EntrySays names s p (W.Of n e) = (n < names) × Stand s p (0x50 ∷ n % 256 ∷ n / 256 ∷ []) (e .0)
 
-entry-says : (names : ℕ) (s : List ℕ) (bytes : (i : ℕ) → getD s i 0 < 256) (p : ℕ) → EntrySays names s p (entryAt names s (place p))
+pub entry-says : (names : ℕ) (s : List ℕ) (bytes : (i : ℕ) → getD s i 0 < 256) (p : ℕ) → EntrySays names s p (entryAt names s (place p))
 unfolding entryAt EntrySays
 entry-says names s bytes p =
     on-byte s bytes Q W.Missing (place p) (λ k q. pick (eqb k 0x50) (nameAt names s q) W.Missing) tt

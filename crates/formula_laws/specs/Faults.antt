@@ -58,13 +58,13 @@ pub record UpTo (s : List ℕ) (p q : ℕ) (w : List ℕ) : Type 0 where
   pub word : w ≡ read ++ rest
 
 module _ (s : List ℕ) where
-  upto-here : (p : ℕ) (w : List ℕ) → UpTo s p p w
+  pub upto-here : (p : ℕ) (w : List ℕ) → UpTo s p p w
   upto-here p w = record { read = []; rest = w; stand = record { ends = omega arith; bytes = refl }; word = refl }
 
-  upto-first : {p q : ℕ} {w : List ℕ} → UpTo s p q w → (y : List ℕ) → UpTo s p q (w ++ y)
+  pub upto-first : {p q : ℕ} {w : List ℕ} → UpTo s p q w → (y : List ℕ) → UpTo s p q (w ++ y)
   upto-first u y = record { read = u .read; rest = u .rest ++ y; stand = u .stand; word = ap (λ (x : List ℕ). x ++ y) (u .word) ∙ append-assoc (u .read) (u .rest) y }
 
-  upto-after : {p t q : ℕ} {h w : List ℕ} → Stand s p h t → UpTo s t q w → UpTo s p q (h ++ w)
+  pub upto-after : {p t q : ℕ} {h w : List ℕ} → Stand s p h t → UpTo s t q w → UpTo s p q (h ++ w)
   upto-after {p} {t} {q} {h} x u = record { read = h ++ u .read; rest = u .rest; stand = stand-join s p t q h (u .read) x (u .stand); word = ap (λ (y : List ℕ). h ++ y) (u .word) ∙ sym (append-assoc h (u .read) (u .rest)) }
 
 -- what a fault's place is, where there is a fault
@@ -163,7 +163,7 @@ module _ (names : ℕ) (s : List ℕ) (bytes : (i : ℕ) → getD s i 0 < 256) w
   unfoldable pub TypeUp : St → ℕ → Type 0
   TypeUp st q = (t : Ty) × T.Below names t × UpTo s (st .at .0) q (T.spell t)
 
-  lead-up : (left : ℕ) (st : St) (q : ℕ) → Leads left names s (st .at .0) q → TypeUp st q
+  pub lead-up : (left : ℕ) (st : St) (q : ℕ) → Leads left names s (st .at .0) q → TypeUp st q
   unfolding TypeUp
   lead-up left st q l =
       let h = fill-word (l .way) in

@@ -10,3 +10,4 @@ pub mod Cases
 pub mod Shape
 pub mod Faults
 pub mod FaultPlace
+pub mod EnvironmentFault
