@@ -119,7 +119,7 @@ type-out (got t e) st = refl
 type-out (malformed p) st = refl
 type-out (deep p) st = refl
 
-pub type-short : (names : ℕ) (s : List ℕ) (left p : ℕ) → length s ≤ 16384 → endOf (typeAt left names (take 4294967295 s) p) ≡ endOf (typeAt left names s p)
+pub type-short : (names : ℕ) (s : List ℕ) (left p : ℕ) → length s ≤ max-bytes → endOf (typeAt left names (take 4294967295 s) p) ≡ endOf (typeAt left names s p)
 type-short names s left p h = ap (λ (l : List ℕ). endOf (typeAt left names l p)) (take-all 4294967295 s (omega arith))
 
 pub type-in : (names : ℕ) (s : List ℕ) (left : ℕ) (st : St) → after (Next st) (typeIn names s left) ≡ typeOut (endOf (typeAt left names s (st .at .0))) st

@@ -7,6 +7,7 @@ ghost use lib.ListN.{length, getD};
 ghost use lib.Dec.{leb};
 ghost use Rattle.types.specs.Record.{typeAt};
 ghost use Rattle.types.specs.Code.{endOf};
+ghost use Rattle.formula.specs.Limits.{max-bytes};
 ghost use Rattle.formula.specs.Heads.{byteAt, wordAt, nameAt, opAt, countAt, fewAt, exprBody, exprHead, predBody, predHead, declBody, declHead, targetAt};
 ghost use Rattle.formula.specs.Reader.{ownOf, declareOf, closedOf, moved, typeIn, spellingIn, forget, after};
 ghost use Rattle.formula.specs.Parse.{declAt, declsAt, exprAt, exprsAt, predAt, predsAt, targetIn, targetsAt, pairIn, pairsAt, becomesAt, formulaAt, parseOf, formOf};
@@ -80,6 +81,7 @@ pub enum DeclHead {
     Annotated(Place),
 }
 
+// Whether a well-formed head of its class stands at a place; nothing is said of the records below it.
 pub enum ExprAt {
     Wrong,
     Is(ExprHead),
@@ -108,6 +110,7 @@ pub enum Fault {
     Beyond(Place),
 }
 
+// The state after a reading, or its first fault. A fault passes through whatever would come after it.
 pub enum Out {
     Next(St),
     Stop(Fault),
@@ -122,7 +125,7 @@ fn wide(b: u8) -> u16
 }
 
 fn byte_at(s: &[u8], at: Place) -> Byte
-    requires { ⌜ length (now s) ≤ 16384 ⌝ }
+    requires { ⌜ length (now s) ≤ max-bytes ⌝ }
     ensures { λ r. ⌜ r ≡ byteAt (now (s .entry)) at ⌝ }
 {
     let p = at.0;
@@ -134,7 +137,7 @@ fn byte_at(s: &[u8], at: Place) -> Byte
 }
 
 fn word_at(s: &[u8], at: Place) -> Word
-    requires { ⌜ length (now s) ≤ 16384 ⌝ }
+    requires { ⌜ length (now s) ≤ max-bytes ⌝ }
     ensures { λ r. ⌜ r ≡ wordAt (now (s .entry)) at ⌝ }
 {
     match byte_at(s, at) {
@@ -148,7 +151,7 @@ fn word_at(s: &[u8], at: Place) -> Word
 
 // A name below the count.
 fn name_at(s: &[u8], names: u32, at: Place) -> Word
-    requires { ⌜ length (now s) ≤ 16384 ⌝ }
+    requires { ⌜ length (now s) ≤ max-bytes ⌝ }
     ensures { λ r. ⌜ r ≡ nameAt names (now (s .entry)) at ⌝ }
 {
     match word_at(s, at) {
@@ -164,7 +167,7 @@ fn name_at(s: &[u8], names: u32, at: Place) -> Word
 
 // An operator below a limit.
 fn op_at(s: &[u8], limit: u8, at: Place) -> Byte
-    requires { ⌜ length (now s) ≤ 16384 ⌝ }
+    requires { ⌜ length (now s) ≤ max-bytes ⌝ }
     ensures { λ r. ⌜ r ≡ opAt limit (now (s .entry)) at ⌝ }
 {
     match byte_at(s, at) {
@@ -180,7 +183,7 @@ fn op_at(s: &[u8], limit: u8, at: Place) -> Byte
 
 // A count of two bytes, at least so many.
 fn count_at(s: &[u8], least: u16, at: Place) -> Word
-    requires { ⌜ length (now s) ≤ 16384 ⌝ }
+    requires { ⌜ length (now s) ≤ max-bytes ⌝ }
     ensures { λ r. ⌜ r ≡ countAt least (now (s .entry)) at ⌝ }
 {
     match word_at(s, at) {
@@ -196,7 +199,7 @@ fn count_at(s: &[u8], least: u16, at: Place) -> Word
 
 // A count of one byte, at least 1.
 fn few_at(s: &[u8], at: Place) -> Byte
-    requires { ⌜ length (now s) ≤ 16384 ⌝ }
+    requires { ⌜ length (now s) ≤ max-bytes ⌝ }
     ensures { λ r. ⌜ r ≡ fewAt (now (s .entry)) at ⌝ }
 {
     match byte_at(s, at) {
@@ -214,7 +217,7 @@ fn few_at(s: &[u8], at: Place) -> Byte
 
 // An expression of kind k whose body stands at p; bare: where no 0C may stand.
 fn expr_body(s: &[u8], names: u32, bare: bool, k: u8, p: Place) -> ExprAt
-    requires { ⌜ length (now s) ≤ 16384 ⌝ }
+    requires { ⌜ length (now s) ≤ max-bytes ⌝ }
     ensures { λ r. ⌜ r ≡ exprBody names (now (s .entry)) bare k p ⌝ }
 {
     match k {
@@ -270,7 +273,7 @@ fn expr_body(s: &[u8], names: u32, bare: bool, k: u8, p: Place) -> ExprAt
 }
 
 fn expr_head(s: &[u8], names: u32, bare: bool, at: Place) -> ExprAt
-    requires { ⌜ length (now s) ≤ 16384 ⌝ }
+    requires { ⌜ length (now s) ≤ max-bytes ⌝ }
     ensures { λ r. ⌜ r ≡ exprHead names (now (s .entry)) bare at ⌝ }
 {
     match byte_at(s, at) {
@@ -280,7 +283,7 @@ fn expr_head(s: &[u8], names: u32, bare: bool, at: Place) -> ExprAt
 }
 
 fn pred_body(s: &[u8], k: u8, p: Place) -> PredAt
-    requires { ⌜ length (now s) ≤ 16384 ⌝ }
+    requires { ⌜ length (now s) ≤ max-bytes ⌝ }
     ensures { λ r. ⌜ r ≡ predBody (now (s .entry)) k p ⌝ }
 {
     match k {
@@ -314,7 +317,7 @@ fn pred_body(s: &[u8], k: u8, p: Place) -> PredAt
 }
 
 fn pred_head(s: &[u8], at: Place) -> PredAt
-    requires { ⌜ length (now s) ≤ 16384 ⌝ }
+    requires { ⌜ length (now s) ≤ max-bytes ⌝ }
     ensures { λ r. ⌜ r ≡ predHead (now (s .entry)) at ⌝ }
 {
     match byte_at(s, at) {
@@ -335,7 +338,7 @@ fn decl_body(k: u8, p: Place) -> DeclAt
 }
 
 fn decl_head(s: &[u8], at: Place) -> DeclAt
-    requires { ⌜ length (now s) ≤ 16384 ⌝ }
+    requires { ⌜ length (now s) ≤ max-bytes ⌝ }
     ensures { λ r. ⌜ r ≡ declHead (now (s .entry)) at ⌝ }
 {
     match byte_at(s, at) {
@@ -346,7 +349,7 @@ fn decl_head(s: &[u8], at: Place) -> DeclAt
 
 // A target: a record 01 and nothing else.
 fn target_at(s: &[u8], names: u32, at: Place) -> Word
-    requires { ⌜ length (now s) ≤ 16384 ⌝ }
+    requires { ⌜ length (now s) ≤ max-bytes ⌝ }
     ensures { λ r. ⌜ r ≡ targetAt names (now (s .entry)) at ⌝ }
 {
     match byte_at(s, at) {
@@ -427,14 +430,14 @@ fn close(opened: u32, o: Out) -> Out
 
 // One type record.
 fn type_at(s: &[u8], names: u32, left: u32, at: Place) -> TypeEnd
-    requires { ⌜ length (now s) ≤ 16384 ⌝ }
+    requires { ⌜ length (now s) ≤ max-bytes ⌝ }
     ensures { λ r. ⌜ r ≡ endOf (typeAt left names (now (s .entry)) (at .0)) ⌝ }
 {
     types::type_end(s, names, at, left)
 }
 
 fn read_type(s: &[u8], names: u32, left: u32, o: Out) -> Out
-    requires { ⌜ length (now s) ≤ 16384 ⌝ }
+    requires { ⌜ length (now s) ≤ max-bytes ⌝ }
     ensures { λ r. ⌜ r ≡ after o (typeIn names (now (s .entry)) left) ⌝ }
 {
     match o {
@@ -452,7 +455,7 @@ fn read_type(s: &[u8], names: u32, left: u32, o: Out) -> Out
 
 // A type, or 4F.
 fn read_spelling(s: &[u8], names: u32, left: u32, o: Out) -> Out
-    requires { ⌜ length (now s) ≤ 16384 ⌝ }
+    requires { ⌜ length (now s) ≤ max-bytes ⌝ }
     ensures { λ r. ⌜ r ≡ after o (spellingIn names (now (s .entry)) left) ⌝ }
 {
     match o {
@@ -476,7 +479,7 @@ fn read_spelling(s: &[u8], names: u32, left: u32, o: Out) -> Out
 }
 
 fn read_decl(s: &[u8], names: u32, left: u32, o: Out) -> Out
-    requires { ⌜ length (now s) ≤ 16384 ⌝ }
+    requires { ⌜ length (now s) ≤ max-bytes ⌝ }
     ensures { λ r. ⌜ r ≡ after o (declAt names (now (s .entry)) left) ⌝ }
 {
     match o {
@@ -501,7 +504,7 @@ fn read_decl(s: &[u8], names: u32, left: u32, o: Out) -> Out
 }
 
 fn read_decls(s: &[u8], names: u32, left: u32, n: u8, o: Out) -> Out
-    requires { ⌜ length (now s) ≤ 16384 ⌝ }
+    requires { ⌜ length (now s) ≤ max-bytes ⌝ }
     ensures { λ r. ⌜ r ≡ after o (declsAt names (now (s .entry)) left n) ⌝ }
 {
     let mut cur = o;
@@ -517,7 +520,7 @@ fn read_decls(s: &[u8], names: u32, left: u32, n: u8, o: Out) -> Out
 
 // bare: where no 0C may stand.
 fn read_expr(s: &[u8], names: u32, bare: bool, left: u32, o: Out) -> Out
-    requires { ⌜ length (now s) ≤ 16384 ⌝ }
+    requires { ⌜ length (now s) ≤ max-bytes ⌝ }
     ensures { λ r. ⌜ r ≡ after o (exprAt left names (now (s .entry)) bare) ⌝ }
 {
     match o {
@@ -565,7 +568,7 @@ fn read_expr(s: &[u8], names: u32, bare: bool, left: u32, o: Out) -> Out
 }
 
 fn read_exprs(s: &[u8], names: u32, left: u32, n: u16, o: Out) -> Out
-    requires { ⌜ length (now s) ≤ 16384 ⌝ }
+    requires { ⌜ length (now s) ≤ max-bytes ⌝ }
     ensures { λ r. ⌜ r ≡ after o (exprsAt left names (now (s .entry)) n) ⌝ }
 {
     let mut cur = o;
@@ -585,7 +588,7 @@ fn read_exprs(s: &[u8], names: u32, left: u32, n: u16, o: Out) -> Out
 }
 
 fn read_pred(s: &[u8], names: u32, left: u32, o: Out) -> Out
-    requires { ⌜ length (now s) ≤ 16384 ⌝ }
+    requires { ⌜ length (now s) ≤ max-bytes ⌝ }
     ensures { λ r. ⌜ r ≡ after o (predAt left names (now (s .entry))) ⌝ }
 {
     match o {
@@ -651,7 +654,7 @@ fn read_pred(s: &[u8], names: u32, left: u32, o: Out) -> Out
 }
 
 fn read_preds(s: &[u8], names: u32, left: u32, n: u16, o: Out) -> Out
-    requires { ⌜ length (now s) ≤ 16384 ⌝ }
+    requires { ⌜ length (now s) ≤ max-bytes ⌝ }
     ensures { λ r. ⌜ r ≡ after o (predsAt left names (now (s .entry)) n) ⌝ }
 {
     let mut cur = o;
@@ -673,7 +676,7 @@ fn read_preds(s: &[u8], names: u32, left: u32, n: u16, o: Out) -> Out
 // ---- formulas
 
 fn read_target(s: &[u8], names: u32, o: Out) -> Out
-    requires { ⌜ length (now s) ≤ 16384 ⌝ }
+    requires { ⌜ length (now s) ≤ max-bytes ⌝ }
     ensures { λ r. ⌜ r ≡ after o (targetIn names (now (s .entry))) ⌝ }
 {
     match o {
@@ -689,7 +692,7 @@ fn read_target(s: &[u8], names: u32, o: Out) -> Out
 }
 
 fn read_targets(s: &[u8], names: u32, n: u8, o: Out) -> Out
-    requires { ⌜ length (now s) ≤ 16384 ⌝ }
+    requires { ⌜ length (now s) ≤ max-bytes ⌝ }
     ensures { λ r. ⌜ r ≡ after o (targetsAt names (now (s .entry)) n) ⌝ }
 {
     let mut cur = o;
@@ -703,7 +706,7 @@ fn read_targets(s: &[u8], names: u32, n: u8, o: Out) -> Out
 
 // A target and its value.
 fn read_pair(s: &[u8], names: u32, left: u32, o: Out) -> Out
-    requires { ⌜ length (now s) ≤ 16384 ⌝ }
+    requires { ⌜ length (now s) ≤ max-bytes ⌝ }
     ensures { λ r. ⌜ r ≡ after o (pairIn left names (now (s .entry))) ⌝ }
 {
     let t = read_target(s, names, o);
@@ -711,7 +714,7 @@ fn read_pair(s: &[u8], names: u32, left: u32, o: Out) -> Out
 }
 
 fn read_pairs(s: &[u8], names: u32, left: u32, n: u8, o: Out) -> Out
-    requires { ⌜ length (now s) ≤ 16384 ⌝ }
+    requires { ⌜ length (now s) ≤ max-bytes ⌝ }
     ensures { λ r. ⌜ r ≡ after o (pairsAt left names (now (s .entry)) n) ⌝ }
 {
     let mut cur = o;
@@ -725,7 +728,7 @@ fn read_pairs(s: &[u8], names: u32, left: u32, n: u8, o: Out) -> Out
 
 // An assignment of kind k, whose count stands at p.
 fn read_becomes(s: &[u8], names: u32, k: u8, p: Place, st: St) -> Out
-    requires { ⌜ length (now s) ≤ 16384 ⌝ }
+    requires { ⌜ length (now s) ≤ max-bytes ⌝ }
     ensures { λ r. ⌜ r ≡ forget (becomesAt names (now (s .entry)) st k p) ⌝ }
 {
     let at = st.at;
@@ -752,7 +755,7 @@ fn read_becomes(s: &[u8], names: u32, k: u8, p: Place, st: St) -> Out
 
 // The record at the start, with all that stands below it.
 fn read_formula(s: &[u8], names: u32, st: St) -> Out
-    requires { ⌜ length (now s) ≤ 16384 ⌝ }
+    requires { ⌜ length (now s) ≤ max-bytes ⌝ }
     ensures { λ r. ⌜ r ≡ forget (formulaAt names (now (s .entry)) st) ⌝ }
 {
     let at = st.at;
@@ -770,7 +773,7 @@ fn read_formula(s: &[u8], names: u32, st: St) -> Out
     }
 }
 
-// What the test of a stream answers.
+// What the test of a stream answers. `TooLong`: over 16,384 bytes.
 pub enum Form {
     Good,
     TooLong,
@@ -814,7 +817,7 @@ pub struct Environment {
 
 // An entry's head: 50 and a name below the count.
 fn entry_at(s: &[u8], names: u32, at: Place) -> Word
-    requires { ⌜ length (now s) ≤ 16384 ⌝ }
+    requires { ⌜ length (now s) ≤ max-bytes ⌝ }
     ensures { λ r. ⌜ r ≡ entryAt names (now (s .entry)) at ⌝ }
 {
     match byte_at(s, at) {
