@@ -1,0 +1,698 @@
+// The walk over a formula's bytes: expressions and predicates call each other with the remaining depth falling. Every function takes any bytes:
+// where the form was tested no malformed one is met, and elsewhere the walk stops with 2.
+use machine::Parts;
+use machine::Plan;
+use machine::State;
+use types::Name;
+use types::NodeRef;
+use types::Place;
+ghost use mathlib.Core.Path.{_≡_};
+ghost use Prim.Native.Nat.{ℕ, _+_, _*_, _-_, _<_, _≤_};
+ghost use mathlib.Core.List.{List};
+ghost use lib.ListN.{length, getD};
+ghost use Rattle.machine.specs.Machine.{mach};
+ghost use Rattle.walker.specs.Walk.{meetOf, nextOf, oneOf, twoOf, allOf, childrenOf, predsOf, quantOf, bodyOf, predBodyOf, exprOf, explicitOf, predOf};
+ghost use Rattle.walker.specs.Root.{pairsOf, productsOf, belongsOf, becomesInOf, targetsOf, sharesOf, suchThatOf, becomesSuchOf, formulaOf};
+
+// A child against what it is compared with, unless the mode compares nothing.
+fn meet(
+    work: &mut [u32],
+    output: &mut [u8],
+    size: u32,
+    mode: u8,
+    x: NodeRef,
+    y: NodeRef,
+    place: Place,
+    st: State,
+) -> State
+    ensures { λ r. ⌜ mach size r (now (work .exit)) (now (output .exit)) ≡ meetOf mode (x .0) (y .0) (place .0) (mach size st (now (work .entry)) (now (output .entry))) ⌝ }
+{
+    if mode == 0 {
+        return st;
+    }
+    machine::expect(work, output, size, x, y, place, st)
+}
+
+// What the next child begins with.
+fn next(mode: u8, y: NodeRef, t: NodeRef) -> NodeRef
+    ensures { λ r. ⌜ r ≡ nextOf mode y t ⌝ }
+{
+    if mode == 2 {
+        return t;
+    }
+    y
+}
+
+// ---- the cycle: expressions and predicates
+
+// An expression, with what stands below it. Its slot is taken before its parts' and filled after them.
+pub fn expr(
+    s: &[u8],
+    env: &[u8],
+    work: &mut [u32],
+    output: &mut [u8],
+    size: u32,
+    left: u32,
+    st: State,
+) -> State
+    ensures { λ r. ⌜ mach size r (now (work .exit)) (now (output .exit)) ≡ exprOf left (now (s .entry)) (now (env .entry)) (mach size st (now (work .entry)) (now (output .entry))) ⌝ }
+{
+    let place = st.at;
+    let k = machine::byte(s, place, 0);
+    if k == 0x0C {
+        return explicit(s, env, work, output, size, left, st);
+    }
+    let slot = st.slots;
+    let e = machine::enter(st);
+    if e.stop != 0 {
+        return e;
+    }
+    if left == 0 {
+        return machine::stopped(2, e);
+    }
+    let v = body(s, env, work, output, size, left - 1, e);
+    machine::leave(work, size, slot, place, v)
+}
+
+// 0C, an expression of a stated type: the comparison stands at the expression's own place, after its walk.
+fn explicit(
+    s: &[u8],
+    env: &[u8],
+    work: &mut [u32],
+    output: &mut [u8],
+    size: u32,
+    left: u32,
+    st: State,
+) -> State
+    ensures { λ r. ⌜ mach size r (now (work .exit)) (now (output .exit)) ≡ explicitOf left (now (s .entry)) (now (env .entry)) (mach size st (now (work .entry)) (now (output .entry))) ⌝ }
+{
+    let e = machine::paid(st);
+    if e.stop != 0 {
+        return e;
+    }
+    if left == 0 {
+        return machine::stopped(2, e);
+    }
+    let a = machine::moved(1, e);
+    let spelled = a.at;
+    let b = machine::skip(s, 65, a);
+    let v = expr(s, env, work, output, size, left - 1, b);
+    let x = v.last;
+    let from = v.from;
+    let after = v.at;
+    let c = machine::placed(spelled, v);
+    let d = machine::meets(s, work, output, size, x, from, c);
+    machine::gave(x, machine::placed(after, d))
+}
+
+// The rule of an expression, by its kind.
+fn body(
+    s: &[u8],
+    env: &[u8],
+    work: &mut [u32],
+    output: &mut [u8],
+    size: u32,
+    left: u32,
+    st: State,
+) -> State
+    ensures { λ r. ⌜ mach size r (now (work .exit)) (now (output .exit)) ≡ bodyOf left (now (s .entry)) (now (env .entry)) (mach size st (now (work .entry)) (now (output .entry))) ⌝ }
+{
+    let at = st.at;
+    let k = machine::byte(s, at, 0);
+    if k == 0x01 {
+        let name = Name(machine::word(s, at, 1));
+        return machine::free_identifier(env, work, size, name, at, machine::moved(3, st));
+    }
+    if k == 0x02 {
+        let index = machine::word(s, at, 1);
+        return machine::bound_identifier(work, output, size, index, at, machine::moved(3, st));
+    }
+    if k == 0x03 {
+        return machine::make(work, size, 0x41, 0, 0, machine::moved(1, st));
+    }
+    if k == 0x04 {
+        let n = machine::check_atomic(machine::byte(s, at, 1));
+        let p = machine::played_with(NodeRef(0), at, NodeRef(0), at, at, st);
+        return machine::play(work, output, size, n, p, machine::moved(2, st));
+    }
+    if k == 0x05 {
+        let plan = Plan {
+            first: machine::UNKNOWN,
+            link: machine::NOTHING,
+            last: machine::POWER,
+            mode: 1,
+        };
+        let n = machine::word(s, at, 1);
+        return all(
+            s,
+            env,
+            work,
+            output,
+            size,
+            left,
+            plan,
+            n,
+            machine::moved(3, st),
+        );
+    }
+    if k == 0x06 {
+        let a = pred(s, env, work, output, size, left, machine::moved(1, st));
+        return machine::make(work, size, 0x40, 0, 0, a);
+    }
+    if k == 0x07 {
+        let n = machine::check_binary(machine::byte(s, at, 1));
+        return two(
+            s,
+            env,
+            work,
+            output,
+            size,
+            left,
+            n,
+            at,
+            machine::moved(2, st),
+        );
+    }
+    if k == 0x08 {
+        let plan = machine::check_associative(machine::byte(s, at, 1));
+        let n = machine::word(s, at, 2);
+        return all(
+            s,
+            env,
+            work,
+            output,
+            size,
+            left,
+            plan,
+            n,
+            machine::moved(4, st),
+        );
+    }
+    if k == 0x09 {
+        let n = machine::check_unary(machine::byte(s, at, 1));
+        return one(
+            s,
+            env,
+            work,
+            output,
+            size,
+            left,
+            n,
+            at,
+            machine::moved(2, st),
+        );
+    }
+    if k == 0x0A {
+        return quant(s, env, work, output, size, left, st);
+    }
+    if k == 0x0B {
+        let a = expr(s, env, work, output, size, left, machine::moved(1, st));
+        let x = a.last;
+        let b = machine::ascription(s, env, work, output, size, x, at, a);
+        return machine::gave(x, b);
+    }
+    machine::stopped(2, st)
+}
+
+// One expression, and then a script.
+fn one(
+    s: &[u8],
+    env: &[u8],
+    work: &mut [u32],
+    output: &mut [u8],
+    size: u32,
+    left: u32,
+    n: u8,
+    place: Place,
+    st: State,
+) -> State
+    ensures { λ r. ⌜ mach size r (now (work .exit)) (now (output .exit)) ≡ oneOf left (now (s .entry)) (now (env .entry)) n (place .0) (mach size st (now (work .entry)) (now (output .entry))) ⌝ }
+{
+    let a = expr(s, env, work, output, size, left, st);
+    let x = a.last;
+    let from = a.from;
+    let p = machine::played_with(x, from, NodeRef(0), place, place, a);
+    machine::play(work, output, size, n, p, a)
+}
+
+// Two expressions, and then a script.
+fn two(
+    s: &[u8],
+    env: &[u8],
+    work: &mut [u32],
+    output: &mut [u8],
+    size: u32,
+    left: u32,
+    n: u8,
+    place: Place,
+    st: State,
+) -> State
+    ensures { λ r. ⌜ mach size r (now (work .exit)) (now (output .exit)) ≡ twoOf left (now (s .entry)) (now (env .entry)) n (place .0) (mach size st (now (work .entry)) (now (output .entry))) ⌝ }
+{
+    let a = expr(s, env, work, output, size, left, st);
+    let x = a.last;
+    let xfrom = a.from;
+    let b = expr(s, env, work, output, size, left, a);
+    let y = b.last;
+    let yfrom = b.from;
+    let p = machine::played_with(x, xfrom, y, yfrom, place, b);
+    machine::play(work, output, size, n, p, b)
+}
+
+// Any number of expressions, by a plan.
+fn all(
+    s: &[u8],
+    env: &[u8],
+    work: &mut [u32],
+    output: &mut [u8],
+    size: u32,
+    left: u32,
+    plan: Plan,
+    n: u32,
+    st: State,
+) -> State
+    ensures { λ r. ⌜ mach size r (now (work .exit)) (now (output .exit)) ≡ allOf left (now (s .entry)) (now (env .entry)) plan n (mach size st (now (work .entry)) (now (output .entry))) ⌝ }
+{
+    let none = NodeRef(0);
+    let at = st.at;
+    let p = machine::played_with(none, at, none, at, at, st);
+    let a = machine::play(work, output, size, plan.first, p, st);
+    let x = a.last;
+    let b = each(s, env, work, output, size, left, plan, x, n, a);
+    let y = b.last;
+    let q = machine::played_with(x, at, y, at, at, b);
+    machine::play(work, output, size, plan.last, q, b)
+}
+
+// n expressions, one after the other. The last reference is then where the last of them ended.
+fn each(
+    s: &[u8],
+    env: &[u8],
+    work: &mut [u32],
+    output: &mut [u8],
+    size: u32,
+    left: u32,
+    plan: Plan,
+    x: NodeRef,
+    n: u32,
+    st: State,
+) -> State
+    ensures { λ r. ⌜ mach size r (now (work .exit)) (now (output .exit)) ≡ childrenOf left (now (s .entry)) (now (env .entry)) plan n x (mach size st (now (work .entry)) (now (output .entry))) ⌝ }
+{
+    let mut v = st;
+    let mut y = x;
+    let mut i = n;
+    while 0 < i {
+        let t = NodeRef(v.nodes);
+        let at = v.at;
+        let p = machine::played_with(y, at, y, at, at, v);
+        let a = machine::play(work, output, size, plan.link, p, v);
+        let z = a.last;
+        let b = expr(s, env, work, output, size, left, a);
+        let w = b.last;
+        let from = b.from;
+        v = meet(work, output, size, plan.mode, w, z, from, b);
+        y = next(plan.mode, y, t);
+        i -= 1;
+    }
+    machine::gave(y, v)
+}
+
+// 0A, a quantified expression.
+fn quant(
+    s: &[u8],
+    env: &[u8],
+    work: &mut [u32],
+    output: &mut [u8],
+    size: u32,
+    left: u32,
+    st: State,
+) -> State
+    ensures { λ r. ⌜ mach size r (now (work .exit)) (now (output .exit)) ≡ quantOf left (now (s .entry)) (now (env .entry)) (mach size st (now (work .entry)) (now (output .entry))) ⌝ }
+{
+    let at = st.at;
+    let around = st.bound;
+    let n = machine::check_quantified(machine::byte(s, at, 1));
+    let count = machine::byte(s, at, 2);
+    let a = machine::declare(s, env, work, output, size, count, machine::moved(3, st));
+    let b = pred(s, env, work, output, size, left, a);
+    let c = one(s, env, work, output, size, left, n, at, b);
+    machine::bounded(around, c)
+}
+
+// A predicate, with what stands below it.
+pub fn pred(
+    s: &[u8],
+    env: &[u8],
+    work: &mut [u32],
+    output: &mut [u8],
+    size: u32,
+    left: u32,
+    st: State,
+) -> State
+    ensures { λ r. ⌜ mach size r (now (work .exit)) (now (output .exit)) ≡ predOf left (now (s .entry)) (now (env .entry)) (mach size st (now (work .entry)) (now (output .entry))) ⌝ }
+{
+    let e = machine::paid(st);
+    if e.stop != 0 {
+        return e;
+    }
+    if left == 0 {
+        return machine::stopped(2, e);
+    }
+    pbody(s, env, work, output, size, left - 1, e)
+}
+
+// The rule of a predicate, by its kind.
+fn pbody(
+    s: &[u8],
+    env: &[u8],
+    work: &mut [u32],
+    output: &mut [u8],
+    size: u32,
+    left: u32,
+    st: State,
+) -> State
+    ensures { λ r. ⌜ mach size r (now (work .exit)) (now (output .exit)) ≡ predBodyOf left (now (s .entry)) (now (env .entry)) (mach size st (now (work .entry)) (now (output .entry))) ⌝ }
+{
+    let at = st.at;
+    let k = machine::byte(s, at, 0);
+    if k == 0x20 {
+        return machine::moved(1, st);
+    }
+    if k == 0x21 {
+        return machine::moved(1, st);
+    }
+    if k == 0x22 {
+        let n = machine::check_relational(machine::byte(s, at, 1));
+        return two(
+            s,
+            env,
+            work,
+            output,
+            size,
+            left,
+            n,
+            at,
+            machine::moved(2, st),
+        );
+    }
+    if k == 0x23 {
+        return preds(s, env, work, output, size, left, 2, machine::moved(1, st));
+    }
+    if k == 0x24 {
+        let n = machine::word(s, at, 1);
+        return preds(s, env, work, output, size, left, n, machine::moved(3, st));
+    }
+    if k == 0x25 {
+        return pred(s, env, work, output, size, left, machine::moved(1, st));
+    }
+    if k == 0x26 {
+        let around = st.bound;
+        let count = machine::byte(s, at, 1);
+        let a = machine::declare(s, env, work, output, size, count, machine::moved(2, st));
+        let b = pred(s, env, work, output, size, left, a);
+        return machine::bounded(around, b);
+    }
+    if k == 0x27 {
+        return one(
+            s,
+            env,
+            work,
+            output,
+            size,
+            left,
+            machine::FINITE,
+            at,
+            machine::moved(1, st),
+        );
+    }
+    if k == 0x28 {
+        let plan = Plan {
+            first: machine::EMPTY_SET,
+            link: machine::NOTHING,
+            last: machine::NOTHING,
+            mode: 1,
+        };
+        let n = machine::word(s, at, 1);
+        return all(
+            s,
+            env,
+            work,
+            output,
+            size,
+            left,
+            plan,
+            n,
+            machine::moved(3, st),
+        );
+    }
+    if k == 0x29 {
+        let plan = Plan {
+            first: machine::NOTHING,
+            link: machine::NOTHING,
+            last: machine::NOTHING,
+            mode: 0,
+        };
+        let n = machine::word(s, at, 1);
+        let a = all(
+            s,
+            env,
+            work,
+            output,
+            size,
+            left,
+            plan,
+            n,
+            machine::moved(3, st),
+        );
+        return machine::list(output, 5, at, Name(machine::NO_NAME), a);
+    }
+    machine::stopped(2, st)
+}
+
+// n predicates.
+fn preds(
+    s: &[u8],
+    env: &[u8],
+    work: &mut [u32],
+    output: &mut [u8],
+    size: u32,
+    left: u32,
+    n: u32,
+    st: State,
+) -> State
+    ensures { λ r. ⌜ mach size r (now (work .exit)) (now (output .exit)) ≡ predsOf left (now (s .entry)) (now (env .entry)) n (mach size st (now (work .entry)) (now (output .entry))) ⌝ }
+{
+    let mut v = st;
+    let mut i = n;
+    while 0 < i {
+        v = pred(s, env, work, output, size, left, v);
+        i -= 1;
+    }
+    v
+}
+
+// ---- assignments, and a whole formula
+
+// n pairs: each value against its target, at the value.
+fn pairs(
+    s: &[u8],
+    env: &[u8],
+    work: &mut [u32],
+    output: &mut [u8],
+    size: u32,
+    n: u8,
+    st: State,
+) -> State
+    ensures { λ r. ⌜ mach size r (now (work .exit)) (now (output .exit)) ≡ pairsOf (now (s .entry)) (now (env .entry)) n (mach size st (now (work .entry)) (now (output .entry))) ⌝ }
+{
+    let mut v = st;
+    let mut i = n;
+    while 0 < i {
+        let a = expr(s, env, work, output, size, 64, v);
+        let x = a.last;
+        let b = expr(s, env, work, output, size, 64, a);
+        let y = b.last;
+        let from = b.from;
+        v = machine::expect(work, output, size, y, x, from, b);
+        i -= 1;
+    }
+    v
+}
+
+// n targets after a first one: their product, which leans left.
+fn products(
+    s: &[u8],
+    env: &[u8],
+    work: &mut [u32],
+    output: &mut [u8],
+    size: u32,
+    n: u8,
+    st: State,
+) -> State
+    ensures { λ r. ⌜ mach size r (now (work .exit)) (now (output .exit)) ≡ productsOf (now (s .entry)) (now (env .entry)) n (mach size st (now (work .entry)) (now (output .entry))) ⌝ }
+{
+    let mut v = st;
+    let mut i = n;
+    while 1 < i {
+        let x = v.last;
+        let a = expr(s, env, work, output, size, 64, v);
+        let y = a.last;
+        v = machine::make(work, size, 0x44, x.0, y.0, a);
+        i -= 1;
+    }
+    v
+}
+
+// A set against the power of what was walked last, at the set.
+fn belongs(s: &[u8], env: &[u8], work: &mut [u32], output: &mut [u8], size: u32, st: State) -> State
+    ensures { λ r. ⌜ mach size r (now (work .exit)) (now (output .exit)) ≡ belongsOf (now (s .entry)) (now (env .entry)) (mach size st (now (work .entry)) (now (output .entry))) ⌝ }
+{
+    let x = st.last;
+    let a = machine::make(work, size, 0x43, x.0, 0, st);
+    let y = a.last;
+    let b = expr(s, env, work, output, size, 64, a);
+    let z = b.last;
+    let from = b.from;
+    machine::expect(work, output, size, z, y, from, b)
+}
+
+// The targets' product, and a set that it belongs to.
+fn becomes_in(
+    s: &[u8],
+    env: &[u8],
+    work: &mut [u32],
+    output: &mut [u8],
+    size: u32,
+    n: u8,
+    st: State,
+) -> State
+    ensures { λ r. ⌜ mach size r (now (work .exit)) (now (output .exit)) ≡ becomesInOf (now (s .entry)) (now (env .entry)) n (mach size st (now (work .entry)) (now (output .entry))) ⌝ }
+{
+    let a = expr(s, env, work, output, size, 64, st);
+    let b = products(s, env, work, output, size, n, a);
+    belongs(s, env, work, output, size, b)
+}
+
+// n targets, one after the other.
+fn targets(
+    s: &[u8],
+    env: &[u8],
+    work: &mut [u32],
+    output: &mut [u8],
+    size: u32,
+    n: u8,
+    st: State,
+) -> State
+    ensures { λ r. ⌜ mach size r (now (work .exit)) (now (output .exit)) ≡ targetsOf (now (s .entry)) (now (env .entry)) n (mach size st (now (work .entry)) (now (output .entry))) ⌝ }
+{
+    let mut v = st;
+    let mut i = n;
+    while 0 < i {
+        v = expr(s, env, work, output, size, 64, v);
+        i -= 1;
+    }
+    v
+}
+
+// A byte as a number that can be counted up to.
+fn number(b: u8) -> u32
+    ensures { λ r. ⌜ r ≡ b ⌝ }
+    ensures { λ r. ⌜ r < 256 ⌝ }
+{
+    b as u32
+}
+
+// Each of n declarations against its target: the slots of both stand one after the other, from the first target's on.
+fn shares(
+    work: &mut [u32],
+    output: &mut [u8],
+    size: u32,
+    first: u32,
+    n: u8,
+    place: Place,
+    st: State,
+) -> State
+    ensures { λ r. ⌜ mach size r (now (work .exit)) (now (output .exit)) ≡ sharesOf first n (place .0) (mach size st (now (work .entry)) (now (output .entry))) ⌝ }
+{
+    let until = number(n);
+    let mut v = st;
+    let mut i: u32 = 0;
+    while i < until {
+        let x = NodeRef(machine::read(work, size, machine::SLOTS, 2, first, i * 2));
+        let y = NodeRef(machine::read(work, size, machine::SLOTS, 2, first, (until + i) * 2));
+        v = machine::expect(work, output, size, y, x, place, v);
+        i += 1;
+    }
+    v
+}
+
+// Declarations that share their targets' types, and the predicate under them.
+fn such_that(
+    s: &[u8],
+    env: &[u8],
+    work: &mut [u32],
+    output: &mut [u8],
+    size: u32,
+    first: u32,
+    n: u8,
+    place: Place,
+    st: State,
+) -> State
+    ensures { λ r. ⌜ mach size r (now (work .exit)) (now (output .exit)) ≡ suchThatOf (now (s .entry)) (now (env .entry)) first n (place .0) (mach size st (now (work .entry)) (now (output .entry))) ⌝ }
+{
+    let a = shares(work, output, size, first, n, place, st);
+    pred(s, env, work, output, size, 64, a)
+}
+
+// n targets, n declarations, and a predicate.
+fn becomes_such(
+    s: &[u8],
+    env: &[u8],
+    work: &mut [u32],
+    output: &mut [u8],
+    size: u32,
+    n: u8,
+    place: Place,
+    st: State,
+) -> State
+    ensures { λ r. ⌜ mach size r (now (work .exit)) (now (output .exit)) ≡ becomesSuchOf (now (s .entry)) (now (env .entry)) n (place .0) (mach size st (now (work .entry)) (now (output .entry))) ⌝ }
+{
+    let first = st.slots;
+    let a = targets(s, env, work, output, size, n, st);
+    let b = machine::declare(s, env, work, output, size, n, a);
+    such_that(s, env, work, output, size, first, n, place, b)
+}
+
+// A whole formula.
+pub fn formula(
+    s: &[u8],
+    env: &[u8],
+    work: &mut [u32],
+    output: &mut [u8],
+    size: u32,
+    st: State,
+) -> State
+    ensures { λ r. ⌜ mach size r (now (work .exit)) (now (output .exit)) ≡ formulaOf (now (s .entry)) (now (env .entry)) (mach size st (now (work .entry)) (now (output .entry))) ⌝ }
+{
+    let at = st.at;
+    let k = machine::byte(s, at, 0);
+    if k < 0x20 {
+        return expr(s, env, work, output, size, 65, st);
+    }
+    if k < 0x30 {
+        return pred(s, env, work, output, size, 65, st);
+    }
+    let n = machine::byte(s, at, 1);
+    let a = machine::moved(2, machine::paid(st));
+    if k == 0x30 {
+        return pairs(s, env, work, output, size, n, a);
+    }
+    if k == 0x31 {
+        return becomes_in(s, env, work, output, size, n, a);
+    }
+    if k == 0x32 {
+        return becomes_such(s, env, work, output, size, n, at, a);
+    }
+    machine::stopped(2, a)
+}
