@@ -1,0 +1,4 @@
+pub mod Answers
+pub mod Begin
+pub mod Run
+pub mod Calls
