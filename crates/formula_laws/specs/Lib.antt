@@ -11,3 +11,4 @@ pub mod Shape
 pub mod Faults
 pub mod FaultPlace
 pub mod EnvironmentFault
+pub mod Stays
