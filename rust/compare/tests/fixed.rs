@@ -10,7 +10,7 @@ use generator::Case;
 use reference::work_words;
 
 fn list(name: &str) -> String {
-    let path = PathBuf::from(env!("CARGO_MANIFEST_DIR")).join("../fixed").join(name);
+    let path = PathBuf::from(env!("CARGO_MANIFEST_DIR")).join("../../crates/replay/data").join(name);
     fs::read_to_string(&path).unwrap_or_else(|e| panic!("{}: {e}", path.display()))
 }
 
