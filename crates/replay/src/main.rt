@@ -1,4 +1,4 @@
-// Replays the fixed list of the bought checker's type texts through the entries that the workbench calls: each line is asked again, and what comes back is
+// Replays the fixed lists of the bought checker's answers through the entries that the workbench calls: each line is asked again, and what comes back is
 // compared byte by byte. Prints a line that differs, and the counts of each list.
 use libc::STDOUT_FILENO;
 use std::num::wrapping_add_u64;
@@ -87,6 +87,35 @@ fn alike(a: &[u8; 512], b: &[u8; 512]) -> bool {
     check::same(a, b)
 }
 
+// formula environment names number output
+fn infers(list: &[u8], first: usize) -> bool {
+    let second = next_field(list, first);
+    let third = next_field(list, second);
+    let fourth = next_field(list, third);
+    let fifth = next_field(list, fourth);
+    let mut formula = [0u8; 512];
+    let f = unhex(list, first, &mut formula);
+    let mut environment = [0u8; 512];
+    let e = unhex(list, second, &mut environment);
+    let mut due = [0u8; 512];
+    let n = unhex(list, fifth, &mut due);
+    let mut output = [0xAAu8; 512];
+    let mut place = 0u64;
+    let mut length = 0u64;
+    let mut steps = 0u64;
+    let number = host::typecheck_infer(
+        &formula[..f],
+        &environment[..e],
+        decimal(list, third),
+        u64::MAX,
+        &mut output,
+        &mut place,
+        &mut length,
+        &mut steps,
+    );
+    number == decimal(list, fourth) && length == n as u64 && alike(&output, &due)
+}
+
 // read text table number record: what the bought reader does not take is refused 4 or 5
 fn reads(list: &[u8], word: usize) -> bool {
     let first = next_field(list, word);
@@ -102,7 +131,7 @@ fn reads(list: &[u8], word: usize) -> bool {
     let mut page = [0u8; 512];
     let mut place = 0u64;
     let mut length = 0u64;
-    let number = text_entries::typecheck_read_text(
+    let number = host::typecheck_read_text(
         &text[..t],
         &table[..k],
         &mut page,
@@ -132,7 +161,7 @@ fn writes(list: &[u8], word: usize) -> bool {
     let mut page = [0u8; 512];
     let mut place = 0u64;
     let mut length = 0u64;
-    let number = text_entries::typecheck_write_text(
+    let number = host::typecheck_write_text(
         &record[..r],
         &table[..k],
         &mut page,
@@ -154,7 +183,7 @@ fn agrees(list: &[u8], line: usize) -> bool {
         b'#' => true,
         b'r' => reads(list, line),
         b'w' => writes(list, line),
-        _ => false,
+        _ => infers(list, line),
     }
 }
 
@@ -242,5 +271,6 @@ fn replay_named(name: &[u8]) {
 }
 
 fn main() {
+    replay_named(b"answers.txt");
     replay_named(b"texts.txt");
 }
