@@ -28,8 +28,8 @@ fn main() {
     } else {
         println!("cargo:rustc-cfg=no_archive");
     }
-    // After the host's, so that it serves only what that does not have.
-    if texts.is_file() {
+    // The host's archive has the text entries too.
+    if texts.is_file() && !archive.is_file() {
         println!("cargo:rustc-cfg=text_archive");
         println!("cargo:rustc-link-lib=static=text_entries");
     }

@@ -1,5 +1,5 @@
 // Replays the fixed lists of the bought checker's answers through the entries that the workbench calls: each line is asked again, and what comes back is
-// compared byte by byte. Prints a line that differs, and the counts of each list.
+// compared byte by byte. Prints for each list its lines and how many were answered as they say.
 use libc::STDOUT_FILENO;
 use std::num::wrapping_add_u64;
 ghost use Rattle.io.specs.Counts.{Counts};

@@ -58,7 +58,7 @@ fn text_cases_of_12() {
 }
 
 /// A finding (docs/DIFFERENCES.md, R1): built through its own factory the checker compares more types than the 0C
-/// records spell. Each input with both builds' answers; the first of the two is document 01's.
+/// records spell. Each input with both builds' answers; the first of the two is the one of `docs/FORMAT.md`.
 #[test]
 fn explicit_types_exact_and_through_the_factory() {
     if !present_or_say("R1") {
@@ -90,7 +90,7 @@ fn explicit_types_exact_and_through_the_factory() {
     answers("0C 41 04 00", "", 1, "60 00 02000000 FFFF");
 }
 
-/// Where it differs from document 01 in text: see docs/DIFFERENCES.md, T5, T6.
+/// Where it differs from `docs/FORMAT.md` in text: see docs/DIFFERENCES.md, T5, T6.
 #[test]
 fn text_outside_the_table() {
     if !present_or_say("T5, T6") {
