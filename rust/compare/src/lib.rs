@@ -4,9 +4,11 @@
 //! - [`side`]: who is asked, and how.
 //! - [`tally`]: answers and differences, counted.
 //! - [`run`]: the questions.
+//! - [`progress`]: how far a run is.
 //! - [`fixed`]: the fixed list of the bought checker's answers.
 
 pub mod fixed;
+pub mod progress;
 pub mod run;
 pub mod side;
 pub mod tally;

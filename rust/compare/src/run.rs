@@ -6,6 +6,7 @@ use generator::{exhaustive, Case, Rng};
 use reference::{infer_counting, work_words, Answer};
 
 use crate::hex;
+use crate::progress::Progress;
 use crate::side::{Heard, Knows, Question, Room, Side};
 use crate::tally::Tally;
 
@@ -99,6 +100,7 @@ impl Run {
 
     /// One question to every side, held against the judge's answer, which is left in `judged`.
     fn ask(&mut self, question: &Question<'_>, output: usize, work: usize) -> (Answer, usize) {
+        self.tally.asks();
         self.judged.dirty(output, work);
         let Room { output: page, work: memory } = &mut self.judged;
         let q = question;
@@ -150,6 +152,7 @@ impl Run {
     }
 
     fn read(&mut self, text: &[u8], table: &[u8], room: usize) {
+        self.tally.asks();
         self.judged.dirty(room, 0);
         let answer = reference::text::read_text(text, table, &mut self.judged.output);
         self.tally.answered(format!("read: {}", number(&answer)));
@@ -177,6 +180,7 @@ impl Run {
     }
 
     fn write(&mut self, record: &[u8], table: &[u8], room: usize, position: u64) {
+        self.tally.asks();
         self.judged.dirty(room, 0);
         let answer = reference::text::write_text(record, table, &mut self.judged.output, position);
         self.tally.answered(format!("write: {}", number(&answer)));
@@ -224,9 +228,11 @@ impl Run {
         self.ask(&question, room, words);
     }
 
-    /// Every byte string of at most `longest` bytes as a formula, as an environment and as a text.
-    pub fn strings(&mut self, longest: usize, rng: &mut Rng) {
-        for bytes in exhaustive::strings(longest) {
+    /// Every byte string of at most `longest` bytes as a formula, as an environment, as a text and as a type record.
+    pub fn strings(&mut self, longest: usize, rng: &mut Rng, progress: &mut Progress) {
+        let all = (0..=longest as u32).map(|length| 256u64.pow(length)).sum();
+        for (done, bytes) in (0..).zip(exhaustive::strings(longest)) {
+            progress.at("byte strings", done, all, &self.tally);
             self.read(&bytes, &[0x81, b'S'], 16);
             self.write(&bytes, &[0x81, b'S'], 16, 1);
             let formula = Case { formula: bytes.clone(), environment: Vec::new(), names: 1 };

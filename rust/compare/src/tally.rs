@@ -14,6 +14,8 @@ struct Class {
 /// What a run counted.
 #[derive(Default)]
 pub struct Tally {
+    /// The questions put: each is one call's arguments.
+    asked: u64,
     /// The judge's answers, by kind.
     answers: BTreeMap<String, u64>,
     /// Comparisons made, by side.
@@ -22,6 +24,16 @@ pub struct Tally {
 }
 
 impl Tally {
+    /// One more question.
+    pub fn asks(&mut self) {
+        self.asked += 1;
+    }
+
+    /// How many questions were put.
+    pub fn asked(&self) -> u64 {
+        self.asked
+    }
+
     pub fn answered(&mut self, kind: impl Into<String>) {
         *self.answers.entry(kind.into()).or_default() += 1;
     }
@@ -62,6 +74,7 @@ impl Tally {
 
     pub fn report(&self) -> String {
         let mut out = String::new();
+        let _ = writeln!(out, "  {:>12}  inputs", self.asked);
         for (kind, count) in &self.answers {
             let _ = writeln!(out, "  {count:>12}  {kind}");
         }

@@ -2,12 +2,12 @@
 //!
 //!     compare [--cases N] [--seed S] [--strings L] [--only infer|text] [--sides bought,factory,port]
 //!
-//! N formulas and N/8 texts from the seed, every operator over every pair of leaves, every limit, and every byte string of at most L bytes. The exit
-//! status is 1 where a difference is found that is not of a known class.
+//! N formulas and N/8 texts from the seed, every operator over every pair of leaves, every limit, and every byte string of at most L bytes. A progress
+//! line goes to the terminal, or to a log once a minute. The exit status is 1 where a difference is found that is not of a known class.
 
-use std::io::{IsTerminal, Write};
-use std::time::{Duration, Instant};
+use std::time::Instant;
 
+use compare::progress::Progress;
 use compare::run::Run;
 use compare::side::others;
 use generator::formula::STYLES;
@@ -53,15 +53,15 @@ fn main() {
     println!("seed {seed}, {cases} formulas, strings to length {strings}; reference against: {}", names.join(", "));
 
     let start = Instant::now();
+    let mut progress = Progress::new();
     let mut run = Run::new(sides);
     let mut rng = Rng::new(seed);
     if infer {
         run.systematic(&mut rng);
     }
     if infer && text {
-        run.strings(strings, &mut rng);
+        run.strings(strings, &mut rng, &mut progress);
     }
-    let mut shown = Instant::now();
     for i in 0..cases {
         if infer {
             let style = STYLES[(i % STYLES.len() as u64) as usize];
@@ -70,15 +70,9 @@ fn main() {
         if text && i % 8 == 0 {
             run.text(&mut rng);
         }
-        if i % 1024 == 0 && shown.elapsed() > Duration::from_secs(1) && std::io::stderr().is_terminal() {
-            shown = Instant::now();
-            eprint!("\r{i} of {cases}, {} differences, {} known   ", run.tally.faults(), run.tally.known());
-            let _ = std::io::stderr().flush();
-        }
+        progress.at("formulas", i, cases, &run.tally);
     }
-    if std::io::stderr().is_terminal() {
-        eprintln!("\r{cases} of {cases}                              ");
-    }
+    progress.ended();
     print!("{}", run.tally.report());
     println!("  {:>12.1}  seconds", start.elapsed().as_secs_f64());
     if run.tally.faults() > 0 {
