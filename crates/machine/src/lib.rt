@@ -1040,12 +1040,12 @@ pub struct Script {
 fn script_at(n: u8) -> Script
     ensures { λ r. ⌜ r ≡ scriptAt n ⌝ }
 {
-    let i = n as usize * 3;
-    if i < 127 {
+    let i = n as usize;
+    if i < 43 {
         return Script {
-            from: tables::SCRIPTS[i],
-            until: tables::SCRIPTS[i + 1],
-            gives: tables::SCRIPTS[i + 2],
+            from: tables::STARTS[i],
+            until: tables::STARTS[i + 1],
+            gives: tables::GIVES[i],
         };
     }
     Script {
@@ -1065,13 +1065,13 @@ pub struct Item {
 fn item_at(n: u32) -> Item
     ensures { λ r. ⌜ r ≡ itemAt n ⌝ }
 {
-    let i = n as usize * 4;
-    if i < 705 {
+    let i = n as usize;
+    if i < 177 {
         return Item {
-            kind: tables::ITEMS[i],
-            x: tables::ITEMS[i + 1],
-            y: tables::ITEMS[i + 2],
-            at: tables::ITEMS[i + 3],
+            kind: tables::DEEDS[i],
+            x: tables::LEFTS[i],
+            y: tables::RIGHTS[i],
+            at: tables::PLACES[i],
         };
     }
     Item {
