@@ -13,7 +13,7 @@ use Rattle.types.specs.Record.{typeAt, got}
 use Rattle.types.specs.Spellings.{Bytes, read-stands}
 use Rattle.formula.specs.Environment.{Entry, lacks, holds, Env, Entries, lookup}
 use Rattle.formula.specs.EnvParse.{Cell, Table}
-use Rattle.formula.specs.Limits.{max-names, max-depth}
+use Rattle.types.specs.Limits.{max-names, max-depth}
 use Rattle.simulation.specs.Relation.{Entered}
 use Rattle.simulation.specs.Whole.{Fresh}
 use Rattle.machine.specs.declared.State.{State}

@@ -17,7 +17,7 @@ use Rattle.formula.specs.declared.Fault.the-variants.{Malformed, Beyond}
 use Rattle.formula.specs.Environment.{Entry, lacks, holds, Entries, lookup}
 use Rattle.formula.specs.Heads.{pick, place, byteAt, onByte, nameAt}
 use Rattle.formula.specs.Parse.{Parsed, parsed, too-long, faulty}
-use Rattle.formula.specs.Limits.{max-bytes, max-depth, max-names}
+use Rattle.types.specs.Limits.{max-bytes, max-depth, max-names}
 
 -- an entry's head: 50 and a name below the count
 unfoldable pub entryAt : ℕ → List ℕ → Place → Word

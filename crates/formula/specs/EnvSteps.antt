@@ -30,7 +30,7 @@ use Rattle.formula.specs.Heads.{pick, place, byteOf, byteAt, onByte, onW
 use Rattle.formula.specs.Parse.{Parsed, parsed, too-long, faulty, formOf}
 use Rattle.formula.specs.EnvParse.{entryAt, typedBy, freshBy, entryBy, entriesFrom, capped, environmentOf, Cell, Table}
 use Rattle.formula.specs.EnvTold.{Told}
-use Rattle.formula.specs.Limits.{max-bytes, max-depth, max-names}
+use Rattle.types.specs.Limits.{max-bytes, max-depth, max-names}
 
 -- ---- where a body ends
 

@@ -1,7 +1,6 @@
 pub mod Tree
 pub mod Environment
 pub mod Spell
-pub mod Limits
 pub mod Heads
 pub mod Reader
 pub mod Parse

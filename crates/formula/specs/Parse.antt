@@ -31,7 +31,7 @@ use Rattle.formula.specs.declared.Form.the-variants.{Good, TooLong, Bad}
 use Rattle.formula.specs.Tree.{Spelling, spells, no-type, Decl, plain, typed, annotated, Expr, free, bound, literal, atomic, extension, truth, binary, associative, unary, quantified, ascribed, explicit, Exprs, none, more, Pred, constant, variable, relational, connective, junction, negation, quantification, simple, multiple, application, Preds, end, also, Target, Formula, expression, predicate, becomes, becomes-in, becomes-such}
 use Rattle.formula.specs.Heads.{pick, place, byteAt, onByte, onWord, fewAt, exprHead, predHead, declHead, targetAt}
 use Rattle.formula.specs.Reader.{Got, ok, bad, andThen, onNext, many, moved, ownOf, declareOf, closing, typeIn, spellingIn}
-use Rattle.formula.specs.Limits.{max-bytes, max-depth, levels}
+use Rattle.types.specs.Limits.{max-bytes, max-depth, levels}
 
 -- ---- declarations
 

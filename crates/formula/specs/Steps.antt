@@ -42,7 +42,7 @@ use Rattle.formula.specs.Tree.{Spelling, Decl, Expr, extension, truth, b
 use Rattle.formula.specs.Heads.{pick, place, byteOf, byteAt, onByte, fewAt, exprHead, predHead, declHead, targetAt}
 use Rattle.formula.specs.Reader.{Got, ok, bad, andThen, forget, after, onNext, many, moved, ownOf, declareOf, closed, closing, closedOf, typeGot, typeIn, noType, spelledIn, spellingIn}
 use Rattle.formula.specs.Parse.{declBy, declIf, declAt, declsAt, exprBy, predBy, exprIf, predIf, exprDeep, predDeep, exprAt, predAt, exprsAt, predsAt, targetBy, targetIn, pairIn, targetsAt, pairsAt, becomesBy, becomesAt, rootBy, start, formulaAt, finish, whole, parsedBy, parseOf, formOf}
-use Rattle.formula.specs.Limits.{max-bytes, max-depth, levels}
+use Rattle.types.specs.Limits.{max-bytes, max-depth, levels}
 
 -- ---- bytes
 

@@ -7,7 +7,7 @@ ghost use lib.ListN.{length, getD};
 ghost use lib.Dec.{leb};
 ghost use Rattle.types.specs.Record.{typeAt};
 ghost use Rattle.types.specs.Code.{endOf};
-ghost use Rattle.formula.specs.Limits.{max-bytes};
+ghost use Rattle.types.specs.Limits.{max-bytes};
 ghost use Rattle.formula.specs.Heads.{byteAt, wordAt, nameAt, opAt, countAt, fewAt, exprBody, exprHead, predBody, predHead, declBody, declHead, targetAt};
 ghost use Rattle.formula.specs.Reader.{ownOf, declareOf, closedOf, moved, typeIn, spellingIn, forget, after};
 ghost use Rattle.formula.specs.Parse.{declAt, declsAt, exprAt, exprsAt, predAt, predsAt, targetIn, targetsAt, pairIn, pairsAt, becomesAt, formulaAt, parseOf, formOf};
@@ -19,16 +19,15 @@ use types::TypeEnd;
 
 // ---- the limits
 
-// The bytes of a formula or of an environment.
-pub const MAX_BYTES: usize = 16384;
-// The levels of records: depths 0 to 64.
-const LEVELS: u32 = 65;
+const MAX_BYTES: usize = types::MAX_BYTES;
 
-const MAX_SLOTS: u32 = 1024;
+const LEVELS: u32 = types::LEVELS;
 
-const MAX_OPENED: u32 = 64;
-// The names that an environment can hold.
-const MAX_NAMES: u32 = 256;
+const MAX_SLOTS: u32 = types::MAX_SLOTS;
+
+const MAX_OPENED: u32 = types::MAX_OPENED;
+
+const MAX_NAMES: u32 = types::MAX_NAMES;
 
 // ---- heads
 

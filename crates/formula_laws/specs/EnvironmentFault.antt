@@ -23,7 +23,7 @@ use Rattle.formula.specs.Environment.{Entry, lacks, holds, Entries, lookup, Dis
 use Rattle.formula.specs.Heads.{pick, place}
 use Rattle.formula.specs.Parse.{Parsed, parsed, too-long, faulty}
 use Rattle.formula.specs.EnvParse.{entryAt, typedBy, freshBy, entryBy, entriesFrom, capped, environmentOf}
-use Rattle.formula.specs.Limits.{max-bytes, max-depth}
+use Rattle.types.specs.Limits.{max-bytes, max-depth}
 use Rattle.formula_laws.specs.Says.{Stand}
 use Rattle.formula_laws.specs.Faults.{UpTo, upto-here, upto-first, upto-after, TypeUp, lead-up}
 use Rattle.formula_laws.specs.FaultPlace.{fault-place}

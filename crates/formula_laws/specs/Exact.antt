@@ -16,7 +16,7 @@ use Rattle.formula.specs.Spell.{spell-formula, size-formula, Placed-formula}
 use Rattle.formula.specs.Heads.{pick, place}
 use Rattle.formula.specs.Reader.{Got, ok, bad, andThen}
 use Rattle.formula.specs.Parse.{formulaAt, start, finish, whole, Parsed, parsed, too-long, faulty, parsedBy, parseOf, formOf}
-use Rattle.formula.specs.Limits.{max-bytes, max-slots}
+use Rattle.types.specs.Limits.{max-bytes, max-slots}
 use Rattle.formula_laws.specs.Fits.{Fits-formula, Fits-root}
 use Rattle.formula_laws.specs.Sizes.{length-formula}
 use Rattle.formula_laws.specs.Sound.{Holds, FormulaRead, sound-formula}

@@ -25,7 +25,7 @@ use Rattle.formula.specs.Heads.{pick, place, byteAt, onByte, onWord, nameAt}
 use Rattle.formula.specs.Parse.{Parsed, parsed, too-long, faulty, formOf}
 use Rattle.formula.specs.EnvParse.{entryAt, typedBy, freshBy, entryBy, entriesFrom, capped, environmentOf}
 use Rattle.formula.specs.EnvSteps.{lookup-other}
-use Rattle.formula.specs.Limits.{max-bytes, max-depth, levels}
+use Rattle.types.specs.Limits.{max-bytes, max-depth, levels}
 use Rattle.formula_laws.specs.Fits.{Fits-ty}
 use Rattle.formula_laws.specs.Says.{Stand, stand-join, on-byte, on-name, choose, same-word}
 use Rattle.formula_laws.specs.Complete.{byte-here, name-here, after-one, after-three}

@@ -19,7 +19,7 @@ use Rattle.formula.specs.Spell.{spell-formula}
 use Rattle.formula.specs.Heads.{pick}
 use Rattle.formula.specs.Reader.{Got, ok, bad, andThen}
 use Rattle.formula.specs.Parse.{formulaAt, start, finish, whole, Parsed, parsed, too-long, faulty, parsedBy, parseOf}
-use Rattle.formula.specs.Limits.{max-bytes}
+use Rattle.types.specs.Limits.{max-bytes}
 use Rattle.formula_laws.specs.Fits.{Fits-pairs, Fits-root}
 use Rattle.formula_laws.specs.Says.{Stand}
 use Rattle.formula_laws.specs.Sound.{Holds, FormulaRead, sound-formula}

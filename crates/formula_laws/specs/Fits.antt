@@ -9,7 +9,7 @@ use mathlib.Core.List.{List, [], _∷_}
 use Rattle.types.specs.Ty as T
 use Rattle.types.specs.Ty.{Ty}
 use Rattle.formula.specs.Tree.{Spelling, spells, no-type, Decl, plain, typed, annotated, Expr, free, bound, literal, atomic, extension, truth, binary, associative, unary, quantified, ascribed, explicit, Exprs, none, more, Pred, constant, variable, relational, connective, junction, negation, quantification, simple, multiple, application, Preds, end, also, Target, Formula, expression, predicate, becomes, becomes-in, becomes-such, decls, exprs, preds, targets, pairs, slots-of}
-use Rattle.formula.specs.Limits.{max-depth, max-slots, max-opened}
+use Rattle.types.specs.Limits.{max-depth, max-slots, max-opened}
 
 -- an expression that is no 0C
 unfoldable pub is-bare : Expr → Bool

@@ -44,7 +44,7 @@ use Rattle.formula.specs.Spell.{spell-spelling, spell-decl, spell-decls, spell,
 use Rattle.formula.specs.Heads.{pick, place, byteOf, byteAt, onByte, onWord, wordAt, nameAt, opAt, countAt, fewAt, exprBody, exprHead, predBody, predHead, declBody, declHead, targetAt}
 use Rattle.formula.specs.Reader.{Got, ok, bad, andThen, onNext, many, moved, ownOf, declareOf, closed, closing, typeGot, typeIn, noType, spelledIn, spellingIn}
 use Rattle.formula.specs.Parse.{declBy, declIf, declAt, declsAt, exprBy, predBy, exprIf, predIf, exprDeep, predDeep, exprAt, predAt, exprsAt, predsAt, targetBy, targetIn, pairIn, targetsAt, pairsAt, becomesBy, becomesAt, rootBy, start, formulaAt, finish, whole, Parsed, parsed, too-long, faulty, parsedBy, parseOf}
-use Rattle.formula.specs.Limits.{max-bytes, max-depth, max-slots, max-opened, levels}
+use Rattle.types.specs.Limits.{max-bytes, max-depth, max-slots, max-opened, levels}
 use Rattle.formula_laws.specs.Fits.{is-bare, Fits-ty, Fits-spelling, Fits-decl, Fits-decls, Fits, Fits-all, Fits-pred, Fits-preds, Fits-targets, Fits-pairs, Fits-root, Fits-formula}
 use Rattle.formula_laws.specs.Sizes.{length-ty, length-spelling, length-decl, length-decls, length-expr, length-all, length-pred, length-preds, length-targets, length-pairs}
 use Rattle.formula_laws.specs.Says.{Stand, stand-join, on-byte, on-few, choose, ExprSays, PredSays, DeclSays, TargetSays, expr-says, pred-says, decl-says, target-says}

@@ -6,6 +6,7 @@ use mathlib.Core.Bool.{Bool, true, false, _&&_}
 use mathlib.Core.List.{List, [], _∷_, _++_}
 use lib.ListN.{length, replicate}
 use lib.Dec.{leb, eqb}
+use Rattle.types.specs.Limits.{max-bytes, max-names, max-capacity, book}
 use Rattle.meter.specs.Meter.{Out, spent, halt, done, broken, full, M, _>>=_}
 use Rattle.formula.specs.declared.Fault.{Fault}
 use Rattle.formula.specs.declared.Fault.the-variants.{Malformed, Beyond}
@@ -32,7 +33,7 @@ zeros n = replicate n 0
 -- ---- 2: sizes. The lengths of formula and environment, the count of names, the capacity, the length of the work slice
 unfoldable pub sized : ℕ → ℕ → ℕ → ℕ → ℕ → Bool
 sized formula environment names capacity work =
-    leb formula 16384 && leb environment 16384 && leb names 256 && leb 1 capacity && leb capacity 32768 && leb (3 * capacity + 4096) work
+    leb formula max-bytes && leb environment max-bytes && leb names max-names && leb 1 capacity && leb capacity max-capacity && leb (3 * capacity + book) work
 
 -- ---- 6 and 7: the walk's operations are run from an empty arena, at most so many nodes of it; then comes the finish
 unfoldable pub concluded : ℕ → Env → Formula → M U Outcome

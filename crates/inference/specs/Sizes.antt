@@ -13,7 +13,7 @@ use Rattle.formula.specs.declared.Word.{Word}
 use Rattle.formula.specs.declared.Word.the-variants as W
 use Rattle.formula.specs.Environment.{Entry, lacks, holds, Entries, lookup}
 use Rattle.formula.specs.Heads.{pick, place}
-use Rattle.formula.specs.Limits.{max-bytes, max-depth}
+use Rattle.types.specs.Limits.{max-bytes, max-depth, max-names, max-capacity, book}
 use Rattle.formula.specs.Reader.{Got, ok, bad}
 use Rattle.formula.specs.Parse.{Parsed, parsed, too-long, faulty, parsedBy, whole, parseOf}
 use Rattle.formula.specs.EnvParse.{entryAt, typedBy, freshBy, entryBy, entriesFrom, capped, environmentOf}
@@ -22,12 +22,12 @@ use Rattle.inference.specs.Infer.{sized}
 
 -- ---- the sizes of row 2: lengths of formula and environment, count of names, capacity, length of the work slice
 pub record Sized (formula environment names capacity work : ℕ) : Type 0 where
-  pub formula-short : formula ≤ 16384
-  pub environment-short : environment ≤ 16384
-  pub names-few : names ≤ 256
+  pub formula-short : formula ≤ max-bytes
+  pub environment-short : environment ≤ max-bytes
+  pub names-few : names ≤ max-names
   pub capacity-some : 1 ≤ capacity
-  pub capacity-small : capacity ≤ 32768
-  pub work-long : 3 * capacity + 4096 ≤ work
+  pub capacity-small : capacity ≤ max-capacity
+  pub work-long : 3 * capacity + book ≤ work
 
 six : (a b c d e f : Bool) → a && b && c && d && e && f ≡ true → (a ≡ true) × (b ≡ true) × (c ≡ true) × (d ≡ true) × (e ≡ true) × (f ≡ true)
 six a b c d e f t =

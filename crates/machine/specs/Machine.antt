@@ -5,6 +5,7 @@ use mathlib.Core.Bool.{Bool, true, false}
 use mathlib.Core.List.{List}
 use lib.ListN.{length, getD, take, drop, set}
 use lib.Dec.{eqb, ltb}
+use Rattle.types.specs.Limits.{max-slots, max-names, max-opened}
 use Rattle.meter.specs.Meter.{Out, spent, halt, done, Why, broken, full}
 use Rattle.unification.specs.Arena as A
 use Rattle.unification.specs.Make.{build}
@@ -93,7 +94,7 @@ paidOf v = test (eqb (v .stop) 0) (λ _. test (eqb (v .budget) 0) (λ _. stopped
 
 -- a unit paid and a slot taken
 unfoldable pub enterOf : State → State
-enterOf v = then (paidOf v) λ w. test (eqb (w .stop) 0) (λ _. test (ltb (w .slots) 1024) (λ _. record { at = w .at; from = w .from; last = w .last; nodes = w .nodes; budget = w .budget; slots = w .slots + 1; met = w .met; bound = w .bound; bytes = w .bytes; over = w .over; stop = w .stop }) (λ _. stoppedOf 2 w)) (λ _. w)
+enterOf v = then (paidOf v) λ w. test (eqb (w .stop) 0) (λ _. test (ltb (w .slots) max-slots) (λ _. record { at = w .at; from = w .from; last = w .last; nodes = w .nodes; budget = w .budget; slots = w .slots + 1; met = w .met; bound = w .bound; bytes = w .bytes; over = w .over; stop = w .stop }) (λ _. stoppedOf 2 w)) (λ _. w)
 
 -- ---- the book: word k of entry j of an area
 abbrev pub cell : ℕ → ℕ → ℕ → ℕ → ℕ
@@ -178,7 +179,7 @@ rememberOf x m =
 unfoldable pub enrolOf : ℕ → ℕ → Mach → Mach
 enrolOf x p m =
     test (eqb (m .st .stop) 0)
-    (λ _. test (ltb (m .st .met) 256)
+    (λ _. test (ltb (m .st .met) max-names)
     (λ _. then (putOf (cell 2048 3 (m .st .met) 0) x m) λ a.
     then (putOf (cell 2048 3 (m .st .met) 1) (m .st .last .0) a) λ b.
     then (putOf (cell 2048 3 (m .st .met) 2) p b) λ c.
@@ -189,7 +190,7 @@ enrolOf x p m =
 unfoldable pub pushBoundOf : Mach → Mach
 pushBoundOf m =
     test (eqb (m .st .stop) 0)
-    (λ _. test (ltb (m .st .bound) 64)
+    (λ _. test (ltb (m .st .bound) max-opened)
     (λ _. then (putOf (cell 3328 1 (m .st .bound) 0) (m .st .last .0) m) λ a.
     then (boundOf (m .st .bound + 1) (m .st)) λ v. withSt v a)
     (λ _. then (stoppedOf 2 (m .st)) λ v. withSt v m))

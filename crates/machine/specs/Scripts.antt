@@ -13,7 +13,7 @@ use Rattle.machine.specs.declared.Script.{Script}
 use Rattle.machine.specs.declared.Item.{Item}
 use Rattle.machine.specs.declared.Parts.{Parts}
 use Rattle.machine.specs.Forms.{test, then}
-use Rattle.machine.specs.Tables.{itemsT, scriptsT}
+use Rattle.machine.specs.Tables.{deedsT, leftsT, rightsT, placesT, startsT, givesT}
 use Rattle.machine.specs.Machine.{Mach, withSt, gaveOf, makeOf, expectOf}
 
 abbrev pub nothing : ℕ
@@ -199,14 +199,14 @@ checkAssociativeOf op =
 -- ---- playing a script
 unfoldable pub scriptAt : ℕ → Script
 scriptAt n =
-    test (ltb (n * 3) 127)
-    (λ _. record { from = getD scriptsT (n * 3) 0; until = getD scriptsT (n * 3 + 1) 0; gives = getD scriptsT (n * 3 + 2) 0 })
+    test (ltb n 43)
+    (λ _. record { from = getD startsT n 0; until = getD startsT (n + 1) 0; gives = getD givesT n 0 })
     (λ _. record { from = 0; until = 0; gives = 0 })
 
 unfoldable pub itemAt : ℕ → Item
 itemAt n =
-    test (ltb (n * 4) 705)
-    (λ _. record { kind = getD itemsT (n * 4) 0; x = getD itemsT (n * 4 + 1) 0; y = getD itemsT (n * 4 + 2) 0; at = getD itemsT (n * 4 + 3) 0 })
+    test (ltb n 177)
+    (λ _. record { kind = getD deedsT n 0; x = getD leftsT n 0; y = getD rightsT n 0; at = getD placesT n 0 })
     (λ _. record { kind = 0; x = 0; y = 0; at = 0 })
 
 unfoldable pub partsOf : ℕ → ℕ → ℕ → ℕ → ℕ → State → Parts

@@ -3,6 +3,7 @@ use Prim.Native.Nat.{ℕ, zero, suc, _+_, _-_, _*_}
 use mathlib.Core.Bool.{Bool, true, false}
 use mathlib.Core.List.{List}
 use lib.Dec.{eqb, ltb}
+use Rattle.types.specs.Limits.{levels}
 use Rattle.machine.specs.declared.State.{State}
 use Rattle.machine.specs.Forms.{test, then}
 use Rattle.machine.specs.Machine.{Mach, withSt, byteAt, wordAt, cell, wordOf, stoppedOf, movedOf, placedOf, gaveOf, enterOf, listOf, makeOf, expectOf, leaveOf, rememberOf, enrolOf, pushBoundOf}
@@ -49,7 +50,7 @@ freeOf env x p m =
     test (eqb entry 0)
     (λ _. then (makeOf 0x4E 0 0 m) λ a. then (rememberOf x a) λ b. enrolOf x p b)
     (λ _. then (placedOf (entry - 1) (m .st)) λ v.
-    then (liftOf 65 env (withSt v m)) λ b.
+    then (liftOf levels env (withSt v m)) λ b.
     then (rememberOf x b) λ c.
     then (placedOf (m .st .at .0) (c .st)) λ v. withSt v c))
     (λ _. then (wordOf (cell 2816 2 x 1) m) λ r. then (gaveOf r (m .st)) λ v. withSt v m))
@@ -93,12 +94,12 @@ notesOf (suc l) s env p m = test (eqb (m .st .stop) 0) (λ _. notesBy (λ x. not
 
 -- a type record against a reference
 unfoldable pub meetsOf : List ℕ → ℕ → ℕ → Mach → Mach
-meetsOf s x p m = then (liftOf 65 s m) λ a. expectOf x (a .st .last .0) p a
+meetsOf s x p m = then (liftOf levels s m) λ a. expectOf x (a .st .last .0) p a
 
 -- a spelled type: noted at q first, then read again
 unfoldable pub spelledOf : List ℕ → List ℕ → ℕ → ℕ → ℕ → Mach → Mach
 spelledOf s env x q p m =
-    then (notesOf 65 s env q m) λ a.
+    then (notesOf levels s env q m) λ a.
     then (placedOf (m .st .at .0) (a .st)) λ v.
     meetsOf s x p (withSt v a)
 

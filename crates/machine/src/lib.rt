@@ -261,7 +261,7 @@ pub fn enter(st: State) -> State
         return v;
     }
     let n = v.slots;
-    if n < 1024 {
+    if n < types::MAX_SLOTS {
         let mut w = v;
         w.slots = n + 1;
         return w;
@@ -461,7 +461,7 @@ fn enrol(work: &mut [u32], size: u32, name: Name, place: Place, st: State) -> St
         return st;
     }
     let n = st.met;
-    if n < 256 {
+    if n < types::MAX_NAMES {
         let r = st.last;
         put(work, size, ROW, 3, n, 0, name.0);
         put(work, size, ROW, 3, n, 1, r.0);
@@ -479,7 +479,7 @@ fn push_bound(work: &mut [u32], size: u32, st: State) -> State
         return st;
     }
     let n = st.bound;
-    if n < 64 {
+    if n < types::MAX_OPENED {
         let r = st.last;
         put(work, size, OPENED, 1, n, 0, r.0);
         return bounded(n + 1, st);
@@ -582,7 +582,7 @@ pub fn free_identifier(
     }
     let back = st.at;
     let a = placed(Place(entry - 1), st);
-    let b = lift(environment, work, size, 65, a);
+    let b = lift(environment, work, size, types::LEVELS, a);
     let c = remember(work, size, name, b);
     placed(back, c)
 }
@@ -708,7 +708,7 @@ pub fn meets(
 ) -> State
     ensures { λ r. ⌜ mach size r (now (work .exit)) (now (output .exit)) ≡ meetsOf (now (s .entry)) (x .0) (place .0) (mach size st (now (work .entry)) (now (output .entry))) ⌝ }
 {
-    let a = lift(s, work, size, 65, st);
+    let a = lift(s, work, size, types::LEVELS, st);
     let t = a.last;
     expect(work, output, size, x, t, place, a)
 }
@@ -728,7 +728,7 @@ fn spelled(
     ensures { λ r. ⌜ mach size r (now (work .exit)) (now (output .exit)) ≡ spelledOf (now (s .entry)) (now (environment .entry)) (x .0) (noted .0) (place .0) (mach size st (now (work .entry)) (now (output .entry))) ⌝ }
 {
     let at = st.at;
-    let a = note_spelled_givens(s, environment, work, output, size, 65, noted, st);
+    let a = note_spelled_givens(s, environment, work, output, size, types::LEVELS, noted, st);
     let b = placed(at, a);
     meets(s, work, output, size, x, place, b)
 }
@@ -1040,12 +1040,12 @@ pub struct Script {
 fn script_at(n: u8) -> Script
     ensures { λ r. ⌜ r ≡ scriptAt n ⌝ }
 {
-    let i = n as usize * 3;
-    if i < 127 {
+    let i = n as usize;
+    if i < 43 {
         return Script {
-            from: tables::SCRIPTS[i],
-            until: tables::SCRIPTS[i + 1],
-            gives: tables::SCRIPTS[i + 2],
+            from: tables::STARTS[i],
+            until: tables::STARTS[i + 1],
+            gives: tables::GIVES[i],
         };
     }
     Script {
@@ -1065,13 +1065,13 @@ pub struct Item {
 fn item_at(n: u32) -> Item
     ensures { λ r. ⌜ r ≡ itemAt n ⌝ }
 {
-    let i = n as usize * 4;
-    if i < 705 {
+    let i = n as usize;
+    if i < 177 {
         return Item {
-            kind: tables::ITEMS[i],
-            x: tables::ITEMS[i + 1],
-            y: tables::ITEMS[i + 2],
-            at: tables::ITEMS[i + 3],
+            kind: tables::DEEDS[i],
+            x: tables::LEFTS[i],
+            y: tables::RIGHTS[i],
+            at: tables::PLACES[i],
         };
     }
     Item {

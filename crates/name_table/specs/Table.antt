@@ -7,6 +7,7 @@ use mathlib.Core.Bool.{Bool, true, false, _&&_, not}
 use mathlib.Core.List.{List, [], _∷_, _++_}
 use lib.ListN.{length, getD, take, drop}
 use lib.Dec.{leb, eqb}
+use Rattle.types.specs.Limits.{max-bytes, max-names}
 use Rattle.name_table.specs.Words.{between, isWord, same}
 use Rattle.name_table.specs.declared.Found.{Found}
 use Rattle.name_table.specs.declared.Found.the-variants.{At, Nothing}
@@ -25,8 +26,8 @@ tableOf (n ∷ ns) = (0x80 + length n) ∷ (n ++ tableOf ns)
 -- a good table and its names, in the order of their numbers
 pub record Table (bytes : List ℕ) (ns : List (List ℕ)) : Type 0 where
   pub spells : bytes ≡ tableOf ns
-  pub small : length bytes ≤ 16384
-  pub few : length ns ≤ 256
+  pub small : length bytes ≤ max-bytes
+  pub few : length ns ≤ max-names
   pub word : (k : ℕ) → k < length ns → isWord (getD ns k []) ≡ true
   pub short : (k : ℕ) → k < length ns → length (getD ns k []) ≤ 64
   pub unreserved : (k : ℕ) → k < length ns → getD ns k [] ≢ boolean
@@ -41,7 +42,7 @@ namesOf (suc f) [] = []
 namesOf (suc f) (k ∷ l) = take (k - 128) l ∷ namesOf f (drop (k - 128) l)
 
 abbrev pub names : List ℕ → List (List ℕ)
-names bytes = namesOf 256 bytes
+names bytes = namesOf max-names bytes
 
 -- the number of a word in a row of names: the first that is the same
 abbrev pub at : ℕ → Found
@@ -80,7 +81,7 @@ goodFrom ns zero i (k ∷ l) = false
 goodFrom ns (suc f) i l = goodOn ns (goodFrom ns f) i l
 
 unfoldable pub goodTable : List ℕ → Bool
-goodTable bytes = leb (length bytes) 16384 && goodFrom (names bytes) 256 0 bytes
+goodTable bytes = leb (length bytes) max-bytes && goodFrom (names bytes) max-names 0 bytes
 
 -- where name n stands
 unfoldable pub Located : List ℕ → ℕ → Part → Type 0

@@ -116,7 +116,7 @@ pub fn find_name(table: &[u8], word: &[u8]) -> Found
 {
     let mut at = 0;
     let mut i: u32 = 0;
-    while i < 256 {
+    while i < types::MAX_NAMES {
         if at >= table.len() {
             return Found::Nothing;
         }
@@ -137,7 +137,7 @@ pub fn name_at(table: &[u8], n: Name) -> Part
 {
     let mut at = 0;
     let mut i: u32 = 0;
-    while i < 256 {
+    while i < types::MAX_NAMES {
         if at >= table.len() {
             return Part::Missing;
         }
@@ -157,7 +157,7 @@ pub fn count_names(table: &[u8]) -> u32
 {
     let mut at = 0;
     let mut i: u32 = 0;
-    while i < 256 {
+    while i < types::MAX_NAMES {
         if at >= table.len() {
             return i;
         }
@@ -187,13 +187,13 @@ fn name_is_good(table: &[u8], i: u32, word: &[u8]) -> bool
 pub fn table_is_good(table: &[u8]) -> bool
     ensures { λ r. ⌜ r ≡ goodTable (now (table .entry)) ⌝ }
 {
-    if table.len() > 16384 {
+    if table.len() > types::MAX_BYTES {
         return false;
     }
     let mut at = 0;
     let mut i: u32 = 0;
     while at < table.len() {
-        if i == 256 {
+        if i == types::MAX_NAMES {
             return false;
         }
         let k = wide(table[at]);

@@ -3,6 +3,7 @@ use Prim.Native.Nat.{ℕ, zero, suc, _+_, _*_}
 use mathlib.Core.Bool.{Bool, true, false}
 use mathlib.Core.List.{List}
 use lib.ListN.{getD}
+use Rattle.types.specs.Limits.{max-names}
 use Rattle.machine.specs.declared.State.{State}
 use Rattle.machine.specs.Machine.{Mach, cell, putOf}
 
@@ -17,4 +18,4 @@ enteredFrom types x zero m = m
 enteredFrom types x (suc k) m = enteredFrom types (x + 1) k (putOf (cell 3392 1 x 0) (getD types x 0) m)
 
 abbrev pub enteredOf : List ℕ → Mach → Mach
-enteredOf types m = enteredFrom types 0 256 m
+enteredOf types m = enteredFrom types 0 max-names m

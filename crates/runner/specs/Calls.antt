@@ -4,6 +4,7 @@ use Prim.Native.Nat.{ℕ, _+_, _*_}
 use mathlib.Core.Bool.{Bool, true, false}
 use mathlib.Core.List.{List}
 use lib.ListN.{take}
+use Rattle.types.specs.Limits.{book}
 use Rattle.formula.specs.declared.Form.{Form}
 use Rattle.formula.specs.declared.Form.the-variants.{Good, TooLong, Bad}
 use Rattle.memory.specs.Memory.{cleared}
@@ -18,7 +19,7 @@ closed j work = called (j .answer) (cleared (told (j .answer) .size) (j .out)) (
 unfoldable pub formulaCall : Form → List ℕ → List ℕ → List ℕ → ℕ → ℕ → List ℕ → List ℕ → Call
 formulaCall TooLong s env types capacity budget out work = called Oversized out work
 formulaCall (Bad f) s env types capacity budget out work = closed (judged (faultOf false f) out) work
-formulaCall Good s env types capacity budget out work = closed (judgeOf budget (runOf s env types (capacity * 3) budget (take (capacity * 3 + 4096) work) out)) work
+formulaCall Good s env types capacity budget out work = closed (judgeOf budget (runOf s env types (capacity * 3) budget (take (capacity * 3 + book) work) out)) work
 
 unfoldable pub environmentCall : Form → Form → List ℕ → List ℕ → List ℕ → ℕ → ℕ → List ℕ → List ℕ → Call
 environmentCall TooLong form s env types capacity budget out work = called Oversized out work

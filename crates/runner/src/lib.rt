@@ -15,9 +15,6 @@ ghost use Rattle.runner.specs.Answers.{told, called};
 ghost use Rattle.runner.specs.Begin.{startOf, enteredOf};
 ghost use Rattle.runner.specs.Run.{verdictOf, judged, judgeOf, faultOf};
 
-// The words of the book, behind the arena's three words a node.
-const BOOK: usize = 4096;
-
 // What inference answers.
 pub enum Answer {
     // 0: the bytes written and the steps taken
@@ -45,22 +42,22 @@ pub enum Answer {
 pub fn fits(formula: usize, environment: usize, names: u32, capacity: u32, work: usize) -> bool
     ensures { λ r. ⌜ r ≡ sized formula environment names capacity work ⌝ }
 {
-    if formula > 16384 {
+    if formula > types::MAX_BYTES {
         return false;
     }
-    if environment > 16384 {
+    if environment > types::MAX_BYTES {
         return false;
     }
-    if names > 256 {
+    if names > types::MAX_NAMES {
         return false;
     }
     if capacity == 0 {
         return false;
     }
-    if capacity > 32768 {
+    if capacity > types::MAX_CAPACITY {
         return false;
     }
-    capacity as usize * 3 + BOOK <= work
+    capacity as usize * 3 + types::BOOK <= work
 }
 
 // ---- the walk and the finish
@@ -89,7 +86,7 @@ pub fn enter_types(work: &mut [u32], size: u32, types: &[u32; 256])
     ensures { λ _. ⌜ ((st : S.State) (out : List ℕ) → mach size st (now (work .exit)) out ≡ enteredOf (now (types .entry)) (mach size st (now (work .entry)) out)) ⌝ }
 {
     let mut x: u32 = 0;
-    while x < 256 {
+    while x < types::MAX_NAMES {
         let i = x as usize;
         machine::put(work, size, machine::ENTRIES, 1, x, 0, types[i]);
         x += 1;

@@ -19,7 +19,7 @@ use Rattle.walk.specs.Walk.{Mode, loose, each, links, relation, last, gather, w
 use Rattle.machine.specs.declared.State.{State}
 use Rattle.machine.specs.declared.Plan.{Plan}
 use Rattle.machine.specs.Forms.{test}
-use Rattle.machine.specs.Tables.{itemsT, scriptsT}
+use Rattle.machine.specs.Tables.{deedsT, leftsT, rightsT, placesT, startsT, givesT}
 use Rattle.machine.specs.Machine.{Mach, withSt, listOf}
 use Rattle.machine.specs.Scripts.{scriptAt, itemAt, partsOf, playOf}
 use Rattle.walker.specs.Walk.{allBy}
@@ -36,11 +36,11 @@ use Rattle.simulation.specs.Shapes.{Moded, unknown-is, power-is, set-is,
 use Rattle.simulation.specs.Children.{AllGo, runs-all}
 
 unknown-tied : tied 3 0 36 (scripted (an-unknown ∷ []) (new 0)) ≡ true
-unfolding tied agrees agree within code scriptAt itemAt itemsT scriptsT test scripted
+unfolding tied agrees agree within code scriptAt itemAt deedsT leftsT rightsT placesT startsT givesT test scripted
 unknown-tied = refl
 
 power-tied : tied 3 0 30 (scripted (a-power left ∷ []) (new 0)) ≡ true
-unfolding tied agrees agree within code scriptAt itemAt itemsT scriptsT test scripted
+unfolding tied agrees agree within code scriptAt itemAt deedsT leftsT rightsT placesT startsT givesT test scripted
 power-tied = refl
 
 abbrev beginning : W ℕ

@@ -18,7 +18,7 @@ use Rattle.machine.specs.declared.State.{State}
 use Rattle.machine.specs.declared.Plan.{Plan}
 use Rattle.machine.specs.declared.Parts.{Parts}
 use Rattle.machine.specs.Forms.{test}
-use Rattle.machine.specs.Tables.{itemsT, scriptsT}
+use Rattle.machine.specs.Tables.{deedsT, leftsT, rightsT, placesT, startsT, givesT}
 use Rattle.machine.specs.Machine.{Mach}
 use Rattle.machine.specs.Scripts.{scriptAt, itemAt, chosenOf, placeOf, partsOf, playOf, checkAtomicOf, checkBinaryOf, checkUnaryOf, checkQuantifiedOf, checkRelationalOf, checkAssociativeOf}
 use Rattle.simulation.specs.Relation.{Ended, Runs}
@@ -38,47 +38,47 @@ every-at (suc n) f e o l = by (ℕ-discrete o n) (λ k. every-at n f (and-right 
 
 -- ---- the tables agree
 atomic-all : every 12 (λ o. tied 3 3 (checkAtomicOf o) (look atomic-scripts never-script o)) ≡ true
-unfolding every tied agrees agree within code scriptAt itemAt itemsT scriptsT test look firstOf scripted never-script never-items atomic-scripts checkAtomicOf
+unfolding every tied agrees agree within code scriptAt itemAt deedsT leftsT rightsT placesT startsT givesT test look firstOf scripted never-script never-items atomic-scripts checkAtomicOf
 atomic-all = refl
 
 pub atomic-tied : (o : ℕ) → o < 12 → tied 3 3 (checkAtomicOf o) (look atomic-scripts never-script o) ≡ true
 atomic-tied o l = every-at 12 (λ k. tied 3 3 (checkAtomicOf k) (look atomic-scripts never-script k)) atomic-all o l
 
 binary-all : every 27 (λ o. tied 3 3 (checkBinaryOf o) (look binary-scripts never-script o)) ≡ true
-unfolding every tied agrees agree within code scriptAt itemAt itemsT scriptsT test look firstOf scripted never-script never-items binary-scripts checkBinaryOf
+unfolding every tied agrees agree within code scriptAt itemAt deedsT leftsT rightsT placesT startsT givesT test look firstOf scripted never-script never-items binary-scripts checkBinaryOf
 binary-all = refl
 
 pub binary-tied : (o : ℕ) → o < 27 → tied 3 3 (checkBinaryOf o) (look binary-scripts never-script o) ≡ true
 binary-tied o l = every-at 27 (λ k. tied 3 3 (checkBinaryOf k) (look binary-scripts never-script k)) binary-all o l
 
 unary-all : every 11 (λ o. tied 3 2 (checkUnaryOf o) (look unary-scripts never-script o)) ≡ true
-unfolding every tied agrees agree within code scriptAt itemAt itemsT scriptsT test look firstOf scripted never-script never-items unary-scripts checkUnaryOf
+unfolding every tied agrees agree within code scriptAt itemAt deedsT leftsT rightsT placesT startsT givesT test look firstOf scripted never-script never-items unary-scripts checkUnaryOf
 unary-all = refl
 
 pub unary-tied : (o : ℕ) → o < 11 → tied 3 2 (checkUnaryOf o) (look unary-scripts never-script o) ≡ true
 unary-tied o l = every-at 11 (λ k. tied 3 2 (checkUnaryOf k) (look unary-scripts never-script k)) unary-all o l
 
 quantified-all : every 3 (λ o. tied 3 2 (checkQuantifiedOf o) (look quantified-scripts never-script o)) ≡ true
-unfolding every tied agrees agree within code scriptAt itemAt itemsT scriptsT test look firstOf scripted never-script never-items quantified-scripts checkQuantifiedOf
+unfolding every tied agrees agree within code scriptAt itemAt deedsT leftsT rightsT placesT startsT givesT test look firstOf scripted never-script never-items quantified-scripts checkQuantifiedOf
 quantified-all = refl
 
 pub quantified-tied : (o : ℕ) → o < 3 → tied 3 2 (checkQuantifiedOf o) (look quantified-scripts never-script o) ≡ true
 quantified-tied o l = every-at 3 (λ k. tied 3 2 (checkQuantifiedOf k) (look quantified-scripts never-script k)) quantified-all o l
 
 relational-all : every 12 (λ o. tied 3 3 (checkRelationalOf o) (scripted (look relational-scripts never-items o) left)) ≡ true
-unfolding every tied agrees agree within code scriptAt itemAt itemsT scriptsT test look firstOf scripted never-items relational-scripts checkRelationalOf
+unfolding every tied agrees agree within code scriptAt itemAt deedsT leftsT rightsT placesT startsT givesT test look firstOf scripted never-items relational-scripts checkRelationalOf
 relational-all = refl
 
 pub relational-tied : (o : ℕ) → o < 12 → tied 3 3 (checkRelationalOf o) (scripted (look relational-scripts never-items o) left) ≡ true
 relational-tied o l = every-at 12 (λ k. tied 3 3 (checkRelationalOf k) (scripted (look relational-scripts never-items k) left)) relational-all o l
 
 pub simple-tied : tied 3 2 35 (scripted simple-script only) ≡ true
-unfolding tied agrees agree within code scriptAt itemAt itemsT scriptsT test scripted
+unfolding tied agrees agree within code scriptAt itemAt deedsT leftsT rightsT placesT startsT givesT test scripted
 simple-tied = refl
 
 -- an unknown and its power: the first of a multiple predicate
 pub set-tied : tied 3 0 5 (scripted (an-unknown ∷ a-power (new 0) ∷ []) (new 1)) ≡ true
-unfolding tied agrees agree within code scriptAt itemAt itemsT scriptsT test scripted
+unfolding tied agrees agree within code scriptAt itemAt deedsT leftsT rightsT placesT startsT givesT test scripted
 set-tied = refl
 
 -- what gathers the children: the plan's numbers
@@ -89,7 +89,7 @@ planned p (linked backward) = eqb (p .first) 36 && (eqb (p .link) 40 && (eqb (p 
 planned p no-script = false
 
 associative-all : every 7 (λ o. planned (checkAssociativeOf o) (look associative-scripts no-script o)) ≡ true
-unfolding every planned tied agrees agree within code scriptAt itemAt itemsT scriptsT test look firstOf scripted associative-scripts checkAssociativeOf
+unfolding every planned tied agrees agree within code scriptAt itemAt deedsT leftsT rightsT placesT startsT givesT test look firstOf scripted associative-scripts checkAssociativeOf
 associative-all = refl
 
 pub associative-planned : (o : ℕ) → o < 7 → planned (checkAssociativeOf o) (look associative-scripts no-script o) ≡ true

@@ -16,7 +16,7 @@ use Rattle.walk.specs.Walk.{Mode, loose, each, links, relation, walk}
 use Rattle.machine.specs.declared.State.{State}
 use Rattle.machine.specs.declared.Plan.{Plan}
 use Rattle.machine.specs.Forms.{test, then}
-use Rattle.machine.specs.Tables.{itemsT, scriptsT}
+use Rattle.machine.specs.Tables.{deedsT, leftsT, rightsT, placesT, startsT, givesT}
 use Rattle.machine.specs.Machine.{Mach, withSt, gaveOf}
 use Rattle.machine.specs.Scripts.{scriptAt, itemAt, chosenOf, partsOf, itemsOf, playOf}
 use Rattle.walker.specs.Walk.{oneBy, twoBy}
@@ -69,12 +69,12 @@ end-number forward = 41
 end-number backward = 42
 
 pub link-tied : (way : Way) → tied 3 0 (link-number way) (link-as way) ≡ true
-unfolding tied agrees agree within code scriptAt itemAt itemsT scriptsT test scripted link-as link-number
+unfolding tied agrees agree within code scriptAt itemAt deedsT leftsT rightsT placesT startsT givesT test scripted link-as link-number
 link-tied forward = refl
 link-tied backward = refl
 
 pub end-tied : (way : Way) → tied 3 0 (end-number way) (ends-as way) ≡ true
-unfolding tied agrees agree within code scriptAt itemAt itemsT scriptsT test scripted ends-as end-number
+unfolding tied agrees agree within code scriptAt itemAt deedsT leftsT rightsT placesT startsT givesT test scripted ends-as end-number
 end-tied forward = refl
 end-tied backward = refl
 
@@ -101,7 +101,7 @@ linked-is way s places K n0 n row e =
 
 -- the script of no items gives the left part
 pub play-nothing : (x pl y pr q : ℕ) (v : State) (m : Mach) → playOf 0 (partsOf x pl y pr q v) m ≡ withSt (gaveOf x (m .st)) m
-unfolding playOf scriptAt scriptsT itemsOf chosenOf partsOf then test
+unfolding playOf scriptAt startsT givesT itemsOf chosenOf partsOf then test
 play-nothing x pl y pr q v m = refl
 
 pub parts-base : (x pl y pr q : ℕ) (v : State) → partsOf x pl y pr q v .base ≡ v .nodes

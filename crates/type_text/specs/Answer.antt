@@ -5,6 +5,7 @@ use mathlib.Core.Bool.{Bool, true, false}
 use mathlib.Core.List.{List, [], _∷_, _++_}
 use lib.ListN.{length, take, drop}
 use lib.Dec.{leb, eqb}
+use Rattle.types.specs.Limits.{levels, max-depth}
 use Rattle.types.specs.Ty.{Ty, spell, depth}
 use Rattle.types.specs.Record.{pick, TypeAt, got, malformed, deep, typeAt}
 use Rattle.name_table.specs.Table.{names, goodTable}
@@ -54,7 +55,7 @@ writtenBy ns n room (got t e) =
 unfoldable pub writeAnswer : List ℕ → List ℕ → List ℕ → ℕ → Answer
 writeAnswer r table page pos =
     pick (goodTable table)
-    (pick (leb pos (length page)) (writtenBy (names table) (length r) (length page - pos) (typeAt 65 (length (names table)) r 0)) Bad)
+    (pick (leb pos (length page)) (writtenBy (names table) (length r) (length page - pos) (typeAt levels (length (names table)) r 0)) Bad)
     Bad
 
 -- the page after: the text stands from the position on if all is done; else nothing has changed
@@ -68,7 +69,7 @@ writtenPage ns page pos (Deep p) x = page
 writtenPage ns page pos NoRoom x = page
 
 unfoldable pub writePage : List ℕ → List ℕ → List ℕ → ℕ → List ℕ
-writePage r table page pos = writtenPage (names table) page pos (writeAnswer r table page pos) (typeAt 65 (length (names table)) r 0)
+writePage r table page pos = writtenPage (names table) page pos (writeAnswer r table page pos) (typeAt levels (length (names table)) r 0)
 
 -- ---- the reader: 2 for the table, then the text's fault, then 5 at place 0 for a type deeper than 64, then 8
 
@@ -78,7 +79,7 @@ readBy n room (malformed p) = Malformed p
 readBy n room (deep p) = Deep p
 readBy n room (got t e) =
     pick (eqb e n)
-    (pick (leb (depth t) 64) (pick (leb (length (spell t)) room) (Done (length (spell t))) NoRoom) (Deep 0))
+    (pick (leb (depth t) max-depth) (pick (leb (length (spell t)) room) (Done (length (spell t))) NoRoom) (Deep 0))
     (Malformed e)
 
 unfoldable pub readAnswer : List ℕ → List ℕ → List ℕ → Answer

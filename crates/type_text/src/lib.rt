@@ -51,7 +51,7 @@ pub fn write(bytes: &[u8], table: &[u8], page: &mut [u8], position: usize) -> An
         table,
         count,
         0,
-        65,
+        types::LEVELS,
         false,
         Room::Left(page.len() - position),
     ) {
@@ -63,7 +63,16 @@ pub fn write(bytes: &[u8], table: &[u8], page: &mut [u8], position: usize) -> An
             match room {
                 Room::Over => Answer::NoRoom,
                 Room::Left(_) => {
-                    let w = writer::put_at(bytes, table, count, 0, 65, false, page, position);
+                    let w = writer::put_at(
+                        bytes,
+                        table,
+                        count,
+                        0,
+                        types::LEVELS,
+                        false,
+                        page,
+                        position,
+                    );
                     Answer::Done(w.width)
                 }
             }
@@ -86,7 +95,7 @@ pub fn read(text: &[u8], table: &[u8], page: &mut [u8]) -> Answer
             if e != text.len() {
                 return Answer::Malformed(e);
             }
-            if d > 64 {
+            if d > types::MAX_DEPTH {
                 return Answer::Deep(0);
             }
             match room {

@@ -15,9 +15,6 @@ ghost use Rattle.inference.specs.Infer.{inferOf};
 ghost use Rattle.runner.specs.Answers.{called, callOf};
 ghost use Rattle.runner.specs.Calls.{formulaCall};
 
-// The words of the book, behind the arena's three words a node.
-const BOOK: usize = 4096;
-
 // The walk over words whose book is empty but for the environment's types; then the tests of names and slots.
 fn run(
     formula: &[u8],
@@ -62,7 +59,7 @@ fn walk(
 ) -> Answer
     ensures { λ r. ⌜ judged r (now (output .exit)) ≡ judgeOf budget (runOf (now (formula .entry)) (now (environment .entry)) (now (types .entry)) size budget (take (size + 4096) (now (work .entry))) (now (output .entry))) ⌝ }
 {
-    let n = shorter(size as usize + BOOK, work.len());
+    let n = shorter(size as usize + types::BOOK, work.len());
     let st = run(
         formula,
         environment,

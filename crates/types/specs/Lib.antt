@@ -1,3 +1,4 @@
+pub mod Limits
 pub mod Ty
 pub mod Record
 pub mod Spellings

@@ -5,6 +5,27 @@ ghost use lib.ListN.{length, take, drop};
 ghost use Rattle.types.specs.Record.{givenOf, headOf, typeAt};
 ghost use Rattle.types.specs.Code.{headIs, endOf};
 
+// ---- the limits, each once; as the definitions have them in specs/Limits
+
+// The bytes of a formula, of an environment or of a name table.
+pub const MAX_BYTES: usize = 16384;
+// The deepest record's depth, where the root has depth 0.
+pub const MAX_DEPTH: u32 = 64;
+// The levels of records: depths 0 to 64.
+pub const LEVELS: u32 = 65;
+// The slots of a formula.
+pub const MAX_SLOTS: u32 = 1024;
+// The declarations open at one place.
+pub const MAX_OPENED: u32 = 64;
+// The names that an environment or a table can hold.
+pub const MAX_NAMES: u32 = 256;
+// The nodes of an arena.
+pub const MAX_CAPACITY: u32 = 32768;
+// The words of the book, behind the arena's three words a node.
+pub const BOOK: usize = 4096;
+
+// ---- kinds of number
+
 // A node of the arena.
 pub struct NodeRef(pub u32);
 

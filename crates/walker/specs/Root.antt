@@ -3,6 +3,7 @@ use Prim.Native.Nat.{ℕ, zero, suc, _+_, _-_, _*_}
 use mathlib.Core.Bool.{Bool, true, false}
 use mathlib.Core.List.{List}
 use lib.Dec.{eqb, ltb}
+use Rattle.types.specs.Limits.{max-depth, levels}
 use Rattle.machine.specs.declared.State.{State}
 use Rattle.machine.specs.Forms.{test, then}
 use Rattle.machine.specs.Machine.{Mach, withSt, byteAt, cell, wordOf, movedOf, paidOf, makeOf, expectOf}
@@ -14,30 +15,30 @@ unfoldable pub pairBy : (Mach → Mach) → Mach → Mach
 pairBy E m = then (E m) λ a. then (E a) λ b. expectOf (b .st .last .0) (a .st .last .0) (b .st .from .0) b
 
 abbrev pub pairsOf : List ℕ → List ℕ → ℕ → Mach → Mach
-pairsOf s env n m = timesOf (pairBy (exprOf 64 s env)) n m
+pairsOf s env n m = timesOf (pairBy (exprOf max-depth s env)) n m
 
 -- one target more: the product of what came before with it
 unfoldable pub productBy : (Mach → Mach) → Mach → Mach
 productBy E m = then (E m) λ a. makeOf 0x44 (m .st .last .0) (a .st .last .0) a
 
 abbrev pub productsOf : List ℕ → List ℕ → ℕ → Mach → Mach
-productsOf s env n m = timesOf (productBy (exprOf 64 s env)) (n - 1) m
+productsOf s env n m = timesOf (productBy (exprOf max-depth s env)) (n - 1) m
 
 -- a set against the power of what was walked last
 unfoldable pub belongsOf : List ℕ → List ℕ → Mach → Mach
 belongsOf s env m =
     then (makeOf 0x43 (m .st .last .0) 0 m) λ c.
-    then (exprOf 64 s env c) λ d.
+    then (exprOf max-depth s env c) λ d.
     expectOf (d .st .last .0) (c .st .last .0) (d .st .from .0) d
 
 unfoldable pub becomesInOf : List ℕ → List ℕ → ℕ → Mach → Mach
 becomesInOf s env n m =
-    then (exprOf 64 s env m) λ a.
+    then (exprOf max-depth s env m) λ a.
     then (productsOf s env n a) λ b.
     belongsOf s env b
 
 abbrev pub targetsOf : List ℕ → List ℕ → ℕ → Mach → Mach
-targetsOf s env n m = timesOf (exprOf 64 s env) n m
+targetsOf s env n m = timesOf (exprOf max-depth s env) n m
 
 -- declaration i against target i, of n: their references stand in the slots
 unfoldable pub shareBy : ℕ → ℕ → ℕ → ℕ → Mach → Mach
@@ -54,7 +55,7 @@ unfoldable pub sharesOf : ℕ → ℕ → ℕ → Mach → Mach
 sharesOf first n p m = then n λ u. sharesFrom first u p (u - 0) 0 m
 
 unfoldable pub suchThatOf : List ℕ → List ℕ → ℕ → ℕ → ℕ → Mach → Mach
-suchThatOf s env first n p m = then (sharesOf first n p m) λ c. predOf 64 s env c
+suchThatOf s env first n p m = then (sharesOf first n p m) λ c. predOf max-depth s env c
 
 unfoldable pub becomesSuchOf : List ℕ → List ℕ → ℕ → ℕ → Mach → Mach
 becomesSuchOf s env n p m =
@@ -65,8 +66,8 @@ becomesSuchOf s env n p m =
 unfoldable pub formulaOf : List ℕ → List ℕ → Mach → Mach
 formulaOf s env m =
     then (byteAt s (m .st .at .0) 0) λ k.
-    test (ltb k 0x20) (λ _. exprOf 65 s env m)
-    (λ _. test (ltb k 0x30) (λ _. predOf 65 s env m)
+    test (ltb k 0x20) (λ _. exprOf levels s env m)
+    (λ _. test (ltb k 0x30) (λ _. predOf levels s env m)
     (λ _. then (byteAt s (m .st .at .0) 1) λ n.
     then (paidOf (m .st)) λ e.
     then (movedOf 2 e) λ v.

@@ -4,6 +4,7 @@ use Prim.Native.Nat.{ℕ, zero, suc, _+_, _-_, _*_}
 use mathlib.Core.Bool.{Bool, true, false}
 use mathlib.Core.List.{List}
 use lib.Dec.{eqb, ltb}
+use Rattle.types.specs.Limits.{levels}
 use Rattle.types.specs.declared.NodeRef.{NodeRef}
 use Rattle.machine.specs.declared.State.{State}
 use Rattle.machine.specs.declared.Plan.{Plan}
@@ -75,7 +76,7 @@ quantBy E P s env m =
 unfoldable pub typedBy : (Mach → Mach) → List ℕ → Mach → Mach
 typedBy E s m =
     then (movedOf 1 (m .st)) λ a.
-    then (skipOf 65 s a) λ b.
+    then (skipOf levels s a) λ b.
     then (E (withSt b m)) λ v.
     then (placedOf (a .at .0) (v .st)) λ c.
     then (meetsOf s (v .st .last .0) (v .st .from .0) (withSt c v)) λ d.

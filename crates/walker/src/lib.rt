@@ -95,7 +95,7 @@ fn explicit(
     }
     let a = machine::moved(1, e);
     let spelled = a.at;
-    let b = machine::skip(s, 65, a);
+    let b = machine::skip(s, types::LEVELS, a);
     let v = expr(s, env, work, output, size, left - 1, b);
     let x = v.last;
     let from = v.from;
@@ -509,9 +509,9 @@ fn pairs(
     let mut v = st;
     let mut i = n;
     while 0 < i {
-        let a = expr(s, env, work, output, size, 64, v);
+        let a = expr(s, env, work, output, size, types::MAX_DEPTH, v);
         let x = a.last;
-        let b = expr(s, env, work, output, size, 64, a);
+        let b = expr(s, env, work, output, size, types::MAX_DEPTH, a);
         let y = b.last;
         let from = b.from;
         v = machine::expect(work, output, size, y, x, from, b);
@@ -536,7 +536,7 @@ fn products(
     let mut i = n;
     while 1 < i {
         let x = v.last;
-        let a = expr(s, env, work, output, size, 64, v);
+        let a = expr(s, env, work, output, size, types::MAX_DEPTH, v);
         let y = a.last;
         v = machine::make(work, size, 0x44, x.0, y.0, a);
         i -= 1;
@@ -551,7 +551,7 @@ fn belongs(s: &[u8], env: &[u8], work: &mut [u32], output: &mut [u8], size: u32,
     let x = st.last;
     let a = machine::make(work, size, 0x43, x.0, 0, st);
     let y = a.last;
-    let b = expr(s, env, work, output, size, 64, a);
+    let b = expr(s, env, work, output, size, types::MAX_DEPTH, a);
     let z = b.last;
     let from = b.from;
     machine::expect(work, output, size, z, y, from, b)
@@ -569,7 +569,7 @@ fn becomes_in(
 ) -> State
     ensures { λ r. ⌜ mach size r (now (work .exit)) (now (output .exit)) ≡ becomesInOf (now (s .entry)) (now (env .entry)) n (mach size st (now (work .entry)) (now (output .entry))) ⌝ }
 {
-    let a = expr(s, env, work, output, size, 64, st);
+    let a = expr(s, env, work, output, size, types::MAX_DEPTH, st);
     let b = products(s, env, work, output, size, n, a);
     belongs(s, env, work, output, size, b)
 }
@@ -589,7 +589,7 @@ fn targets(
     let mut v = st;
     let mut i = n;
     while 0 < i {
-        v = expr(s, env, work, output, size, 64, v);
+        v = expr(s, env, work, output, size, types::MAX_DEPTH, v);
         i -= 1;
     }
     v
@@ -642,7 +642,7 @@ fn such_that(
     ensures { λ r. ⌜ mach size r (now (work .exit)) (now (output .exit)) ≡ suchThatOf (now (s .entry)) (now (env .entry)) first n (place .0) (mach size st (now (work .entry)) (now (output .entry))) ⌝ }
 {
     let a = shares(work, output, size, first, n, place, st);
-    pred(s, env, work, output, size, 64, a)
+    pred(s, env, work, output, size, types::MAX_DEPTH, a)
 }
 
 // n targets, n declarations, and a predicate.
@@ -678,10 +678,10 @@ pub fn formula(
     let at = st.at;
     let k = machine::byte(s, at, 0);
     if k < 0x20 {
-        return expr(s, env, work, output, size, 65, st);
+        return expr(s, env, work, output, size, types::LEVELS, st);
     }
     if k < 0x30 {
-        return pred(s, env, work, output, size, 65, st);
+        return pred(s, env, work, output, size, types::LEVELS, st);
     }
     let n = machine::byte(s, at, 1);
     let a = machine::moved(2, machine::paid(st));
