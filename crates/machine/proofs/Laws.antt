@@ -135,7 +135,6 @@ link-or-bad ws n a false = refl
 
 pub no-node : (ws : List ℕ) (n k a b : ℕ) → (k ≡ 0x4E → ⊥) → (k ≡ 0x40 → ⊥) → (k ≡ 0x41 → ⊥) → (k ≡ 0x42 → ⊥) → (k ≡ 0x43 → ⊥) → (k ≡ 0x44 → ⊥)
     → build ws n (A.decode k a b) ≡ fail broken ws
-unfolding A.decode
 no-node ws n k a b h0 h1 h2 h3 h4 h5 =
     rw (ne-eqb k 0x4E h0, ne-eqb k 0x40 h1, ne-eqb k 0x41 h2, ne-eqb k 0x42 h3, ne-eqb k 0x43 h4, ne-eqb k 0x44 h5) (link-or-bad ws n a (eqb k 0x4D))
 

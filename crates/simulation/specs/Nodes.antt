@@ -43,27 +43,25 @@ abbrev pub Builds : ℕ → ℕ → ℕ → Type 0
 Builds k a b = (ws : Words) (n : ℕ) → Inside n (decode k a b) → build ws n (decode k a b) ≡ Mk.makeOf ws n k a b
 
 pub builds-unknown : Builds 0x4E 0 0
-unfolding build decode
+unfolding build
 builds-unknown ws n h = refl
 
 pub builds-boolean : Builds 0x40 0 0
-unfolding build decode
+unfolding build
 builds-boolean ws n h = refl
 
 pub builds-integer : Builds 0x41 0 0
-unfolding build decode
+unfolding build
 builds-integer ws n h = refl
 
 pub builds-given : (x : ℕ) → Builds 0x42 x 0
-unfolding build decode
+unfolding build
 builds-given x ws n h = refl
 
 pub builds-power : (x : ℕ) → Builds 0x43 x 0
-unfolding decode
 builds-power x ws n h = build-power ws n x h
 
 pub builds-pair : (x y : ℕ) → Builds 0x44 x y
-unfolding decode
 builds-pair x y ws n h = build-pair ws n x y (h .0) (h .1)
 
 -- the machine after a node

@@ -8,6 +8,7 @@ pub mod Twin
 pub mod Laws
 pub mod History
 pub mod Ops
+pub mod Exec
 pub mod Code
 pub mod Kinds
 pub mod Tasks
