@@ -3,8 +3,9 @@ use native.Mathlib.Omega.{arith}
 use Rattle.machine.specs.Forms.{test, then, step, yes-if, no-if, yes-eq, no-eq, yes-lt, no-lt, yes-le, no-le}
 use Prim.Native.Nat.{ℕ}
 use Rattle.unification.specs.Arena.{decode}
+use Rattle.unification.specs.Make.{builds-no-other}
 use Rattle.unifier.specs.Answers.{made}
-use Rattle.machine.proofs.Laws.{lent, lent-push, no-node}
+use Rattle.machine.proofs.Laws.{lent, lent-push}
 use lib.Seq.{length-take-le}
 use borrow.Author.Needs.{needs}
 use Rattle.machine.proofs.push.Statement.{statement}
@@ -152,7 +153,7 @@ returns-6 c = lent-push (c .before .before .prod .result) (c .before .before .be
 -- src/lib.rt:356:1
 returns-7 : tie.Need-returns-7
 unfolding made
-returns-7 c = (sym (no-node _ _ _ _ _ (c .match .rest .0 .0 .0 .0 .0 .1) (c .match .rest .0 .0 .0 .0 .1) (c .match .rest .0 .0 .0 .1) (c .match .rest .0 .0 .1) (c .match .rest .0 .1) (c .match .rest .1)), refl)
+returns-7 c = (sym (builds-no-other _ _ _ _ _ (c .match .rest .0 .0 .0 .0 .0 .1) (c .match .rest .0 .0 .0 .0 .1) (c .match .rest .0 .0 .0 .1) (c .match .rest .0 .0 .1) (c .match .rest .0 .1) (c .match .rest .1)), refl)
 
 pub push-spec : {M : Type 1} → statement M
 push-spec =
