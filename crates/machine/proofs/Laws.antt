@@ -2,7 +2,6 @@
 -- recursive readers at a number of levels.
 use Prim.Native.Nat.{ℕ, zero, suc, _+_, _-_, _*_, _≤_, _<_}
 use mathlib.Core.Path.{_≡_, refl, sym, ap, ap₂, _∙_}
-use mathlib.Core.Bool.{Bool, true, false}
 use mathlib.Core.List.{List, [], _∷_, _++_}
 use native.Mathlib.Omega.{arith}
 use native.Mathlib.Decide.{decLt}
@@ -12,7 +11,7 @@ use lib.Dec.{eqb, ltb}
 use borrow.Author.Tests.{lt-ltb, le-ltb, ne-eqb}
 use lib.ListN.{length, getD, take, drop, set, drop-of-length-le}
 use lib.Seq.{length-take-le, take-all, take-at, drop-at, getD-drop, take-set-le, drop-set-add, set-out}
-use Rattle.meter.specs.Meter.{Out, spent, halt, done, Why, broken, full, M, ret, fail}
+use Rattle.meter.specs.Meter.{Out, M, ret, fail}
 use Rattle.types.specs.declared.NodeRef.{NodeRef}
 use Rattle.unification.specs.Arena as A
 use Rattle.unification.specs.Make.{build}

@@ -1,4 +1,5 @@
 pub mod Arena
+pub mod Arenas
 pub mod Steps
 pub mod Trees
 pub mod Good
