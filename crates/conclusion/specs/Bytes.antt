@@ -1,13 +1,13 @@
 -- Bytes written after the walk: numbers, problems with their names, and types, each after the bytes before it or counted as over.
 -- After this file a reader knows which bytes `listOf` and `spellOf` write, and that they change nothing else.
-use Prim.Native.Nat.{ℕ, zero, suc, _+_, _*_, _/_, _%_, _≤_, _<_}
+use Prim.Native.Nat.{ℕ, zero, _+_, _*_, _/_, _%_, _≤_, _<_}
 use mathlib.Core.Path.{_≡_, refl, sym, _∙_, ap, ap₂, subst}
 use mathlib.Core.Bool.{Bool, true, false}
 use mathlib.Core.List.{List, [], _∷_, _++_}
 use native.Mathlib.Omega.{arith}
 use native.Mathlib.Decide.{decLe}
 use lib.Dec.{eqb}
-use lib.ListN.{length, take, set, length-append, length-set}
+use lib.ListN.{length, take, length-append}
 use borrow.Author.Tests.{eq-eqb}
 use Rattle.meter.specs.Meter.{Out, done, halt, full}
 use Rattle.types.specs.Ty.{Ty}

@@ -2,14 +2,13 @@
 -- After this file `makeOf` runs a node, `expectOf` a comparison and `listOf` a problem of the walk's own.
 use Prim.Native.Nat.{ℕ, _+_, _≤_, _<_}
 use mathlib.Core.Path.{_≡_, refl, sym, _∙_, ap, ap₂, subst}
-use mathlib.Core.Bool.{Bool}
 use mathlib.Core.List.{List, [], _∷_}
 use native.Mathlib.Omega.{arith}
 use native.Mathlib.Decide.{decLt}
 use lib.ListN.{length}
 use lib.Dec.{eqb, ltb}
-use borrow.Author.Tests.{lt-ltb, le-ltb, eq-eqb}
-use Rattle.meter.specs.Meter.{Out, spent, halt, full, M, ret, fail, on, forget, forgetE, Ends, exact-ends}
+use borrow.Author.Tests.{lt-ltb, eq-eqb}
+use Rattle.meter.specs.Meter.{Out, spent, halt, M, ret, fail, on, forgetE, Ends, exact-ends}
 use Rattle.meter.specs.Meter as Mt
 use Rattle.formula.specs.Environment.{Env}
 use Rattle.unification.specs.Arena.{U, Words, decode, Verdict, unified, mismatch, circular, Answer, unify}

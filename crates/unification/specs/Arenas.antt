@@ -1,12 +1,12 @@
 -- Small arenas, computed: what the definitions of `Arena` answer, what is left of the budget, and which words stand. No law is needed for this.
 -- A node is written as its kind and two operands: `unknown`, `bool`, `int`, `given x`, `powerOf x`, `product x y`, `bound x`.
-use Prim.Native.Nat.{ℕ, zero, suc}
+use Prim.Native.Nat.{ℕ}
 use mathlib.Core.Path.{_≡_, refl}
-use mathlib.Core.Bool.{Bool, true, false}
-use mathlib.Core.List.{List, [], _∷_, _++_}
-use Rattle.meter.specs.Meter.{Out, spent, halt, done, Why, broken}
+use mathlib.Core.Bool.{true, false}
+use mathlib.Core.List.{[], _∷_, _++_}
+use Rattle.meter.specs.Meter.{spent, halt, done, broken}
 use Rattle.types.specs.Ty as T
-use Rattle.unification.specs.Arena.{Words, resolve, occurs, solved, read, unified, mismatch, circular, unify}
+use Rattle.unification.specs.Arena.{Words, solved, read, unified, mismatch, circular, unify}
 
 abbrev pub unknown : Words
 unknown = 0x4E ∷ 0 ∷ 0 ∷ []

@@ -1,5 +1,4 @@
 -- Small arenas, computed: the record of a type written on a page, and nodes made. The words are those of `Arenas`.
-use Prim.Native.Nat.{ℕ}
 use mathlib.Core.Path.{_≡_, refl}
 use mathlib.Core.List.{List, [], _∷_, _++_}
 use Rattle.meter.specs.Meter.{Out, halt, done, broken, full, _>>=_, reading}

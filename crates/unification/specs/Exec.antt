@@ -4,15 +4,14 @@
 -- `grow-`, `learn-`, `complain-`, `noted-`: what stands on the bench after a node, a comparison, a problem. `exec-counts`: how many nodes
 -- stand after a list that ran to its end. With these nobody has to open `exec` or what it is made of.
 use Prim.Native.Nat.{ℕ, zero, suc, _+_, _≤_, _<_}
-use mathlib.Core.Path.{_≡_, refl, sym, _∙_, ap, subst}
+use mathlib.Core.Path.{_≡_, refl, sym, ap, subst}
 use mathlib.Core.Bool.{Bool}
 use mathlib.Core.List.{List, [], _∷_, _++_}
 use native.Mathlib.Omega.{arith}
 use native.Mathlib.Decide.{decLt}
-use lib.Dec.{ltb}
 use borrow.Author.Tests.{lt-ltb, le-ltb}
-use Rattle.meter.specs.Meter.{Out, spent, halt, done, full, M, ret, fail, tick, on, _>>=_, forgetE, forget}
-use Rattle.unification.specs.Arena.{Words, U, choose, unified, mismatch, circular, Answer, unify}
+use Rattle.meter.specs.Meter.{Out, spent, halt, done, full, ret, fail, tick, on, _>>=_, forgetE, forget}
+use Rattle.unification.specs.Arena.{U, choose, unified, mismatch, circular, Answer, unify}
 use Rattle.unification.specs.Good.{pushAt}
 use Rattle.unification.specs.Ops.{Op, pay, make, compare, list, Bench, noted, grow, learn, complain, exec, nodes}
 
