@@ -1,19 +1,18 @@
 -- Bytes written after the walk: numbers, problems with their names, and types, each after the bytes before it or counted as over.
 -- After this file a reader knows which bytes `listOf` and `spellOf` write, and that they change nothing else.
-use Prim.Native.Nat.{ℕ, zero, suc, _+_, _*_, _/_, _%_, _≤_, _<_}
+use Prim.Native.Nat.{ℕ, zero, _+_, _*_, _/_, _%_, _≤_, _<_}
 use mathlib.Core.Path.{_≡_, refl, sym, _∙_, ap, ap₂, subst}
 use mathlib.Core.Bool.{Bool, true, false}
 use mathlib.Core.List.{List, [], _∷_, _++_}
 use native.Mathlib.Omega.{arith}
 use native.Mathlib.Decide.{decLe}
 use lib.Dec.{eqb}
-use lib.ListN.{length, take, set, length-append, length-set}
-use lib.Seq.{take-suc-set}
+use lib.ListN.{length, take, length-append}
 use borrow.Author.Tests.{eq-eqb}
 use Rattle.meter.specs.Meter.{Out, done, halt, full}
 use Rattle.types.specs.Ty.{Ty}
 use Rattle.unification.specs.Arena.{read}
-use Rattle.unification.specs.Put.{Page, Sheet, put, lay, lay-length, put-done, put-full}
+use Rattle.unification.specs.Put.{Page, Sheet, put, lay, lay-length, lay-take, put-done, put-full}
 use Rattle.unification.specs.Put as P
 use Rattle.inference.specs.Answer.{Problem, two, four, spellProblem}
 use Rattle.machine.specs.declared.State.{State}
@@ -69,19 +68,6 @@ module _ (room : ℕ) where
       subst (λ (l : List ℕ). Spoke room l m (twoOf (q .name) (fourOf (q .place) (emitOf (q .kind) (emitOf 0x60 m))))) e d
 
 -- ---- a type
-pub lay-take : (p : Page) (at : ℕ) (bs : List ℕ) → at + length bs ≤ length p → take (at + length bs) (lay p at bs) ≡ take at p ++ bs
-unfolding lay
-lay-take p at [] l = let e : at + 0 ≡ at = omega arith in ap (λ (i : ℕ). take i p) e ∙ sym (nil-right (take at p))
-lay-take p at (b ∷ bs) l =
-    let k : length (set p at b) ≡ length p = length-set p at b in
-    let e : at + suc (length bs) ≡ (at + 1) + length bs = omega arith in
-    let j : at + 1 ≡ suc at = omega arith in
-    ap (λ (i : ℕ). take i (lay (set p at b) (at + 1) bs)) e
-    ∙ lay-take (set p at b) (at + 1) bs (omega arith)
-    ∙ ap (λ (i : ℕ). take i (set p at b) ++ bs) j
-    ∙ ap (λ (i : List ℕ). i ++ bs) (take-suc-set p at b (omega arith))
-    ∙ assoc (take at p) (b ∷ []) bs
-
 -- the bytes of T are written where it is what is read
 module _ (room : ℕ) (m : Mach) (g : m .st .stop ≡ 0) (t : ℕ) (T : Ty) (left : ℕ) (q : read (m .arena) (m .st .nodes) t most ≡ done T left) where
   spell-as : (o : Out Page Sheet) → m .st .over ≡ false → put (m .arena) (m .st .nodes) (m .out, m .st .bytes, t) most ≡ o → spellOf t m ≡ laidBy o m

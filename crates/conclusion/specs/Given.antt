@@ -94,27 +94,21 @@ module _ (N : ℕ) where
 
   -- ---- nodes
   slim-fresh : Slender (unknown)
-  unfolding decode
   slim-fresh = slim-node UNKNOWN 0 0 tt
 
   slim-power : (x : ℕ) → Slender (power x)
-  unfolding decode
   slim-power x = slim-node POWER x 0 tt
 
   slim-pair : (x y : ℕ) → Slender (node PRODUCT x y)
-  unfolding decode
   slim-pair x y = slim-node PRODUCT x y tt
 
   slim-int : Slender (integer)
-  unfolding decode
   slim-int = slim-node INTEGER 0 0 tt
 
   slim-bool : Slender (boolean)
-  unfolding decode
   slim-bool = slim-node BOOLEAN 0 0 tt
 
   slim-given : (x : ℕ) → x < N → Slender (node GIVEN x 0)
-  unfolding decode
   slim-given x h = slim-node GIVEN x 0 h
 
   atom-under : (x : ℕ) → AtomBelow N (given x) → x < N
@@ -130,7 +124,7 @@ module _ (N : ℕ) where
 
   -- ---- scripts and rows of expressions
   play-slim : (args places : ℕ → ℕ) (n : ℕ) (is : List Item) → Slims (play args places n is)
-  unfolding play decode
+  unfolding play
   play-slim args places n [] = tt
   play-slim args places n (an-unknown ∷ is) = (tt, play-slim args places n is)
   play-slim args places n (a-bool ∷ is) = (tt, play-slim args places n is)

@@ -7,7 +7,7 @@ use mathlib.Core.Bool.{Bool, true, false, _&&_}
 use mathlib.Core.List.{List, [], _∷_, _++_}
 use lib.ListN.{length, replicate, drop, getD, set}
 use lib.Dec.{leb, ltb, eqb}
-use Rattle.meter.specs.Meter.{M, ret, fail, tick, on, _>>=_, atE, reading, iter, run, forgetE, forget}
+use Rattle.meter.specs.Meter.{M, ret, fail, tick, on, _>>=_, atE, reading, mapped, iter, run, forgetE, forget}
 use Rattle.types.specs.Ty.{spellAtom, spell}
 use Rattle.types.specs.Record as R
 use Rattle.types.specs.Record.{typeAt, typeBy, headOf, givenOf}
@@ -17,11 +17,10 @@ use Rattle.formula.specs.Heads.{byteOf, byteAt, onByte, onWord, wordAt, nameAt,
 use Rattle.formula.specs.Reader.{andThen, onNext, many, moved, ownOf, declareOf, closed, closing, typeGot, typeIn, noType, spelledIn, spellingIn}
 use Rattle.formula.specs.Parse.{declBy, declIf, declAt, declsAt, exprBy, predBy, exprIf, predIf, exprDeep, predDeep, exprAt, predAt, targetBy, targetIn, pairIn, targetsAt, pairsAt, becomesBy, becomesAt, rootBy, formulaAt, finish, whole, parsedBy, parseOf}
 use Rattle.formula.specs.EnvParse.{entryAt, typedBy, freshBy, entryBy, entriesFrom, capped, environmentOf}
-use Rattle.unification.specs.Arena.{decode, inside, nodeAt, bindAt, choose, follow, resolveF, resolve, inNode, occursF, occurs, allNode, solvedF, solved, typeNode, readF, read, sameAtom, verdictOf, meet, bound, assign, next, meeting, unifyAt, unifyF, unify}
+use Rattle.unification.specs.Arena.{inside, nodeAt, bindAt, choose, follow, resolveF, resolve, inNode, occursF, occurs, allNode, solvedF, solved, typeNode, readF, read, sameAtom, verdictOf, meet, bound, assign, next, meeting, unifyAt, unifyF, unify}
 use Rattle.unification.specs.Good.{pushAt}
 use Rattle.unification.specs.Ops as Ops
 use Rattle.unification.specs.Ops.{grow, learn, complain, exec}
-use Rattle.unification.specs.Frame.{mapped}
 use Rattle.typing.specs.Equations.{firstOf, look}
 use Rattle.walk.specs.Writer as W
 use Rattle.walk.specs.Writer.{found, find, glue, enter, own, node, same, problem, enrol}
@@ -189,5 +188,5 @@ Answered [] = Unit {0}
 Answered (c ∷ cs) = (inferOf (c .formula) (c .environment) 1 (c .capacity) (c .budget) 1000 (3 * c .capacity + 4096) ≡ c .answer) × Answered cs
 
 pub auditors-table : Answered cases
-unfolding ret fail tick on _>>=_ atE reading iter run forgetE forget spellAtom spell first lookup spellEntry spellEntries place byteOf byteAt onByte onWord wordAt nameAt opAt countAt fewAt exprBody exprHead predBody predHead declBody declHead targetAt andThen onNext many moved ownOf declareOf closed closing typeGot typeIn noType spelledIn spellingIn declBy declIf declAt declsAt exprBy predBy exprIf predIf exprDeep predDeep exprAt predAt targetBy targetIn pairIn targetsAt pairsAt becomesBy becomesAt rootBy formulaAt finish whole decode inside nodeAt bindAt choose follow resolveF resolve inNode occursF occurs allNode solvedF solved typeNode readF read sameAtom verdictOf meet bound assign next meeting unifyAt unifyF unify pushAt Ops.noted grow learn complain exec mapped firstOf look W.done W._>>=_ found find glue enter own node same problem enrol pick play perform three scripted atomic-scripts binary-scripts unary-scripts quantified-scripts relational-scripts associative-scripts relation stepped last gather atom lift fromEnv known counted over name noteOf notes meets spelled claim at-decl declare ascription expr scriptOf walk K.forget walk-formula walked start two four spellProblem spellProblems spellSlot spellSlots refused written parsedBy parseOf entryAt typedBy freshBy entryBy entriesFrom capped environmentOf finding test noted ask askName names slots settled testSlots walkProblems F.finish either sized concluded fitting answer answered blamed formed inferOf typeAt typeBy headOf R.andThen givenOf
+unfolding ret fail tick on _>>=_ atE reading iter run forgetE forget spellAtom spell first lookup spellEntry spellEntries place byteOf byteAt onByte onWord wordAt nameAt opAt countAt fewAt exprBody exprHead predBody predHead declBody declHead targetAt andThen onNext many moved ownOf declareOf closed closing typeGot typeIn noType spelledIn spellingIn declBy declIf declAt declsAt exprBy predBy exprIf predIf exprDeep predDeep exprAt predAt targetBy targetIn pairIn targetsAt pairsAt becomesBy becomesAt rootBy formulaAt finish whole inside nodeAt bindAt choose follow resolveF resolve inNode occursF occurs allNode solvedF solved typeNode readF read sameAtom verdictOf meet bound assign next meeting unifyAt unifyF unify pushAt Ops.noted grow learn complain exec mapped firstOf look W.done W._>>=_ found find glue enter own node same problem enrol pick play perform three scripted atomic-scripts binary-scripts unary-scripts quantified-scripts relational-scripts associative-scripts relation stepped last gather atom lift fromEnv known counted over name noteOf notes meets spelled claim at-decl declare ascription expr scriptOf walk K.forget walk-formula walked start two four spellProblem spellProblems spellSlot spellSlots refused written parsedBy parseOf entryAt typedBy freshBy entryBy entriesFrom capped environmentOf finding test noted ask askName names slots settled testSlots walkProblems F.finish either sized concluded fitting answer answered blamed formed inferOf typeAt typeBy headOf R.andThen givenOf
 auditors-table = (refl, (refl, (refl, (refl, (refl, (refl, (refl, (refl, (refl, (refl, (refl, (refl, (refl, (refl, tt))))))))))))))

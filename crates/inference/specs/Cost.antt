@@ -5,14 +5,13 @@ use mathlib.Core.Path.{_≡_, refl, sym, _∙_, ap, ap₂, subst}
 use mathlib.Core.Bool.{Bool, true, false}
 use mathlib.Core.List.{List, [], _∷_, _++_}
 use native.Mathlib.Omega.{arith}
-use Rattle.meter.specs.Meter.{Out, spent, halt, done, Why, M, ret, _>>=_, Shift, same, wreck, late, wait, lost, Within, w-spent, w-halt, w-done, Metered, metered-ret, metered-bind, Costs, done-costs, Exact, exact-ret, exact-eq, exact-map, exact-bind}
+use Rattle.meter.specs.Meter.{Out, spent, halt, done, Why, M, ret, _>>=_, Shift, same, wreck, late, wait, lost, Within, w-spent, w-halt, w-done, Metered, metered-ret, metered-bind, mapped, mapped-done, mapped-shift, mapped-within, Costs, done-costs, Exact, exact-ret, exact-eq, exact-map, exact-bind}
 use Rattle.types.specs.Ty.{Ty}
 use Rattle.formula.specs.Environment.{Env}
 use Rattle.formula.specs.Tree.{Formula}
 use Rattle.unification.specs.Arena.{Words, U, solved, read}
 use Rattle.unification.specs.Steps.{solved-metered, read-metered}
 use Rattle.unification.specs.Twin.{read-as-solved}
-use Rattle.unification.specs.Frame.{mapped}
 use Rattle.unification.specs.Ops.{Bench, exec-metered}
 use Rattle.walk.specs.Writer.{Row}
 use Rattle.inference.specs.Answer.{Problem}
@@ -24,10 +23,10 @@ use Rattle.inference.specs.Infer.{concluded}
 module _ (ws : Words) (n t : ℕ) where
   -- where solved says yes, the test finds a type, with as much left
   pub test-yes : (b left : ℕ) → solved ws n t b ≡ done true left → (T : Ty) × (read ws n t b ≡ done T left) × (test ws n t b ≡ done (found T) left)
-  unfolding test finding mapped
+  unfolding test finding
   test-yes b left e =
       let h = read-as-solved ws n t b left e in
-      (h .0, h .1, ap (λ (o : Out U Bool). finding o (read ws n t b)) e ∙ ap (mapped found) (h .1))
+      (h .0, h .1, ap (λ (o : Out U Bool). finding o (read ws n t b)) e ∙ ap (mapped found) (h .1) ∙ mapped-done found (h .0) left)
 
   pub test-no : (b left : ℕ) → solved ws n t b ≡ done false left → test ws n t b ≡ done unsolved left
   unfolding test finding
@@ -41,22 +40,13 @@ module _ (ws : Words) (n t : ℕ) where
   unfolding test finding
   test-halt b w e = ap (λ (o : Out U Bool). finding o (read ws n t b)) e
 
-  mapped-shift : {o o′ : Out U Ty} (b b′ : ℕ) → Shift b b′ o o′ → Shift b b′ (mapped found o) (mapped found o′)
-  unfolding mapped
-  mapped-shift b b′ (same p q) = same p q
-  mapped-shift b b′ wreck = wreck
-  mapped-shift b b′ (late p) = late p
-  mapped-shift b b′ wait = wait
-  mapped-shift b b′ lost = lost
-
   -- spent before, a type found later
   later : (b b′ left : ℕ) → left + b < b′ → (T : Ty) (o : Out U Ty) → o ≡ done T left → Shift b b′ (spent tt) (mapped found o)
-  unfolding mapped
-  later b b′ left l T o e = subst (λ (q : Out U Ty). Shift b b′ (spent tt) (mapped found q)) (sym e) (late l)
+  later b b′ left l T o e = subst (λ (q : Out U Finding). Shift b b′ (spent tt) q) (sym (ap (mapped found) e ∙ mapped-done found T left)) (late l)
 
   finding-shift : (b b′ : ℕ) → b ≤ b′ → (o o′ : Out U Bool) → solved ws n t b ≡ o → solved ws n t b′ ≡ o′ → Shift b b′ o o′ → Shift b b′ (finding o (read ws n t b)) (finding o′ (read ws n t b′))
   unfolding finding
-  finding-shift b b′ l o o′ e e′ (same {a = true} p q) = mapped-shift b b′ (read-metered ws n t .shift b b′ l)
+  finding-shift b b′ l o o′ e e′ (same {a = true} p q) = mapped-shift found b b′ (read-metered ws n t .shift b b′ l)
   finding-shift b b′ l o o′ e e′ (same {a = false} p q) = same p q
   finding-shift b b′ l o o′ e e′ wreck = wreck
   finding-shift b b′ l o o′ e e′ (late {a = true} {r′ = left} p) = let h = read-as-solved ws n t b′ left e′ in later b b′ left p (h .0) (read ws n t b′) (h .1)
@@ -64,17 +54,11 @@ module _ (ws : Words) (n t : ℕ) where
   finding-shift b b′ l o o′ e e′ wait = wait
   finding-shift b b′ l o o′ e e′ lost = lost
 
-  mapped-within : {o : Out U Ty} (b : ℕ) → Within b o → Within b (mapped found o)
-  unfolding mapped
-  mapped-within b w-spent = w-spent
-  mapped-within b w-halt = w-halt
-  mapped-within b (w-done p) = w-done p
-
   finding-within : (b : ℕ) (o : Out U Bool) → Within b o → Within b (finding o (read ws n t b))
   unfolding finding
   finding-within b o w-spent = w-spent
   finding-within b o w-halt = w-halt
-  finding-within b o (w-done {a = true} p) = mapped-within b (read-metered ws n t .within b)
+  finding-within b o (w-done {a = true} p) = mapped-within found b (read-metered ws n t .within b)
   finding-within b o (w-done {a = false} p) = w-done p
 
   pub test-metered : Metered (test ws n t)

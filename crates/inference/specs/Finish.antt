@@ -3,11 +3,10 @@
 use Prim.Native.Nat.{ℕ}
 use mathlib.Core.Bool.{Bool, true, false}
 use mathlib.Core.List.{List, [], _∷_, _++_}
-use Rattle.meter.specs.Meter.{Out, spent, halt, done, M, ret, _>>=_}
+use Rattle.meter.specs.Meter.{Out, spent, halt, done, M, ret, _>>=_, mapped}
 use Rattle.types.specs.Ty.{Ty}
 use Rattle.formula.specs.Environment.{Entry, lacks, holds, Env}
 use Rattle.unification.specs.Arena.{Words, U, solved, read}
-use Rattle.unification.specs.Frame.{mapped}
 use Rattle.unification.specs.Ops.{Bench}
 use Rattle.walk.specs.Writer.{Met, Row}
 use Rattle.inference.specs.Answer.{Problem, nameless}

@@ -2,7 +2,6 @@
 -- recursive readers at a number of levels.
 use Prim.Native.Nat.{ℕ, zero, suc, _+_, _-_, _*_, _≤_, _<_}
 use mathlib.Core.Path.{_≡_, refl, sym, ap, ap₂, _∙_}
-use mathlib.Core.Bool.{Bool, true, false}
 use mathlib.Core.List.{List, [], _∷_, _++_}
 use native.Mathlib.Omega.{arith}
 use native.Mathlib.Decide.{decLt}
@@ -12,7 +11,7 @@ use lib.Dec.{eqb, ltb}
 use borrow.Author.Tests.{lt-ltb, le-ltb, ne-eqb}
 use lib.ListN.{length, getD, take, drop, set, drop-of-length-le}
 use lib.Seq.{length-take-le, take-all, take-at, drop-at, getD-drop, take-set-le, drop-set-add, set-out}
-use Rattle.meter.specs.Meter.{Out, spent, halt, done, Why, broken, full, M, ret, fail}
+use Rattle.meter.specs.Meter.{Out, M, ret, fail}
 use Rattle.types.specs.declared.NodeRef.{NodeRef}
 use Rattle.unification.specs.Arena as A
 use Rattle.unification.specs.Make.{build}
@@ -126,18 +125,6 @@ module _ (size : ℕ) (v r x : State) (w w′ out q : List ℕ) (b : drop size w
       → whole x (take size w′) (drop size w′) q ≡ listOf 1 p 0xFFFF (whole r (take size w′) (drop size w′) out) → mach size x w′ q ≡ settledBy o p (mach size v w out)
   unfolding settled settledBy judgedBy then
   settled-circular l p o e h k = k ∙ ap₂ (λ (y : State) (z : List ℕ). listOf 1 p 0xFFFF (whole y (take size w′) z out)) h b ∙ ap (λ (y : Out (List ℕ) A.Answer). settledBy y p (mach size v w out)) e
-
--- a kind that the unifier makes no node of
-link-or-bad : (ws : List ℕ) (n a : ℕ) (c : Bool) → build ws n (A.pick c (A.link a) A.bad) ≡ fail broken ws
-unfolding build
-link-or-bad ws n a true = refl
-link-or-bad ws n a false = refl
-
-pub no-node : (ws : List ℕ) (n k a b : ℕ) → (k ≡ 0x4E → ⊥) → (k ≡ 0x40 → ⊥) → (k ≡ 0x41 → ⊥) → (k ≡ 0x42 → ⊥) → (k ≡ 0x43 → ⊥) → (k ≡ 0x44 → ⊥)
-    → build ws n (A.decode k a b) ≡ fail broken ws
-unfolding A.decode
-no-node ws n k a b h0 h1 h2 h3 h4 h5 =
-    rw (ne-eqb k 0x4E h0, ne-eqb k 0x40 h1, ne-eqb k 0x41 h2, ne-eqb k 0x42 h3, ne-eqb k 0x43 h4, ne-eqb k 0x44 h5) (link-or-bad ws n a (eqb k 0x4D))
 
 -- ---- the book
 pub put-inside : (size i x : ℕ) (st : State) (w out : List ℕ) → mach size st (set w (size + i) x) out ≡ putOf i x (mach size st w out)

@@ -11,6 +11,7 @@ use Rattle.formula.specs.Spell.{spell, spell-target, spell-targets, spell-pairs
 use Rattle.formula_laws.specs.Fits.{Fits, Fits-targets, Fits-pairs}
 use Rattle.formula_laws.specs.Sizes.{length-expr, length-targets}
 use Rattle.unification.specs.Arena.{U}
+use Rattle.unification.specs.Make.{builds-power, builds-pair}
 use Rattle.walk.specs.Writer.{at, _>>=_, same, power, pair}
 use Rattle.walk.specs.Walk.{name, walk, target, products}
 use Rattle.walk.specs.Walk as K
@@ -25,7 +26,7 @@ use Rattle.simulation.specs.Stand.{runs-if, runs-map, runs-stand}
 use Rattle.simulation.specs.Still.{still-make, still-expect, still-times}
 use Rattle.simulation.specs.StillWalk.{Still, still-expr}
 use Rattle.simulation.specs.Output.{assoc}
-use Rattle.simulation.specs.Nodes.{Came, Gave, runs-make, runs-expect, builds-power, builds-pair}
+use Rattle.simulation.specs.Nodes.{Came, Gave, runs-make, runs-expect}
 use Rattle.simulation.specs.Bytes.{drop-past}
 use Rattle.simulation.specs.Cycle.{tie}
 

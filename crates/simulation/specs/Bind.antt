@@ -1,17 +1,16 @@
 -- Pieces one after the other: where the machine runs the first and then the second, it runs both.
 -- After this file `runs-bind` serves every sequence of the walk, and `runs-eq` every piece that is another by its definition.
-use Prim.Native.Nat.{ℕ, zero, suc, _+_, _*_, _≤_, _<_}
+use Prim.Native.Nat.{ℕ, suc, _+_, _*_, _≤_, _<_}
 use mathlib.Core.Path.{_≡_, sym, _∙_, ap, subst}
-use mathlib.Core.Bool.{Bool, true, false}
 use mathlib.Core.List.{List, [], _∷_, _++_}
 use native.Mathlib.Omega.{arith}
-use lib.Dec.{ltb}
 use lib.ListN.{length, getD, length-append}
-use Rattle.meter.specs.Meter.{Out, spent, halt, done, broken, full, M, on, ret, tick, fail, forget}
+use Rattle.meter.specs.Meter.{Out, spent, halt, done, broken, full, M, on}
 use Rattle.meter.specs.Meter as Mt
 use Rattle.formula.specs.Environment.{Env}
-use Rattle.unification.specs.Arena.{U, Answer, choose, unify}
-use Rattle.unification.specs.Ops.{Op, pay, make, compare, list, Bench, Sound, nodes, exec, exec-append, grow, learn, complain}
+use Rattle.unification.specs.Arena.{U}
+use Rattle.unification.specs.Ops.{Op, pay, make, compare, list, Bench, Sound, nodes, exec, exec-append}
+use Rattle.unification.specs.Exec.{Counts, exec-counts}
 use Rattle.walk.specs.Writer.{Row, Walk, W, glue, _>>=_}
 use Rattle.machine.specs.Machine.{Mach, cell}
 use Rattle.simulation.specs.Relation.{Slots, Filled, Ended, Runs}
@@ -26,42 +25,6 @@ sound-split n (make k a b ∷ os) qs h =
     ((h .0, z .0), subst (λ (j : ℕ). Sound j qs) e (z .1))
 sound-split n (compare a b p ∷ os) qs h = let z = sound-split n os qs (h .2) in ((h .0, h .1, z .0), z .1)
 sound-split n (list q p ∷ os) qs h = sound-split n os qs h
-
--- what is counted after a list that ran to its end
-module _ (cap : ℕ) where
-  abbrev Counts : List Op → Bench → Out U Bench → Type 0
-  Counts os s (done s′ r) = s′ .count ≡ s .count + nodes os
-  Counts os s (spent e) = Unit {0}
-  Counts os s (halt w e) = Unit {0}
-
-  recount : (os qs : List Op) (s t : Bench) → t .count + nodes os ≡ s .count + nodes qs → (o : Out U Bench) → Counts os t o → Counts qs s o
-  recount os qs s t e (done s′ r) h = omega arith
-  recount os qs s t e (spent x) h = tt
-  recount os qs s t e (halt w x) h = tt
-
-  ticked : (os : List Op) (s : Bench) → ((β : ℕ) → Counts os s (exec cap os s β)) → (β : ℕ) → Counts (pay ∷ os) s (tick tt (exec cap os s) β)
-  unfolding tick
-  ticked os s h zero = tt
-  ticked os s h (suc β) = recount os (pay ∷ os) s s (omega arith) (exec cap os s β) (h β)
-
-  chosen : (c : Bool) (k a b : ℕ) (os : List Op) (s : Bench) → ((β : ℕ) → Counts os (grow s k a b) (exec cap os (grow s k a b) β)) → (β : ℕ) → Counts (make k a b ∷ os) s (choose c (exec cap os (grow s k a b)) (fail full tt) β)
-  unfolding choose fail grow
-  chosen true k a b os s h β = recount os (make k a b ∷ os) s (grow s k a b) (omega arith) (exec cap os (grow s k a b) β) (h β)
-  chosen false k a b os s h β = tt
-
-  compared : (a b p : ℕ) (os : List Op) (s : Bench) → ((o : Answer) (β : ℕ) → Counts os (learn s p o) (exec cap os (learn s p o) β)) → (o : Out U Answer) → Counts (compare a b p ∷ os) s (on o (λ x. exec cap os (learn s p x)))
-  unfolding on learn
-  compared a b p os s h (done x r) = recount os (compare a b p ∷ os) s (learn s p x) (omega arith) (exec cap os (learn s p x) r) (h x r)
-  compared a b p os s h (spent e) = tt
-  compared a b p os s h (halt w e) = tt
-
-  pub exec-counts : (os : List Op) (s : Bench) (β : ℕ) → Counts os s (exec cap os s β)
-  unfolding exec ret Mt._>>=_ complain
-  exec-counts [] s β = omega arith
-  exec-counts (pay ∷ os) s β = ticked os s (exec-counts os s) β
-  exec-counts (make k a b ∷ os) s β = chosen (ltb (s .count) cap) k a b os s (exec-counts os (grow s k a b)) β
-  exec-counts (compare a b p ∷ os) s β = compared a b p os s (λ o. exec-counts os (learn s p o)) (forget (unify (s .count) (s .words, a, b)) β)
-  exec-counts (list q p ∷ os) s β = recount os (list q p ∷ os) s (complain s q p) (omega arith) (exec cap os (complain s q p) β) (exec-counts os (complain s q p) β)
 
 module _ (Γ : Env) (env : List ℕ) (cap room : ℕ) where
   -- slots of two pieces
@@ -104,7 +67,7 @@ module _ (Γ : Env) (env : List ℕ) (cap room : ℕ) where
     stopped-at : (n : ℕ) → (n ≡ 0 → ⊥) → m1 .st .stop ≡ n → m2 .st .stop ≡ n
     stopped-at n z e = through (λ q. z (sym e ∙ q)) ∙ e
 
-    after : (b : Bench) (row : Row) (x : Walk A) (o : Out U Bench) → Counts cap (x .ops) b o
+    after : (b : Bench) (row : Row) (x : Walk A) (o : Out U Bench) → Counts (x .ops) b o
         → Ended Γ env cap room m m1 x (B1 (x .result)) Q1 o
         → Sound (b .count + nodes (x .ops)) (k (x .result) (b .count + nodes (x .ops)) (x .row) .ops)
         → m .st .slots + length (x .slots ++ k (x .result) (b .count + nodes (x .ops)) (x .row) .slots) ≤ 1024

@@ -19,6 +19,7 @@ use Rattle.formula_laws.specs.Sizes.{length-ty, length-spelling}
 use Rattle.typing.specs.Equations.{look}
 use Rattle.unification.specs.Arena.{U}
 use Rattle.unification.specs.Ops.{Bench, exec}
+use Rattle.unification.specs.Make.{builds-boolean, builds-integer}
 use Rattle.walk.specs.Writer.{Walk, W, done, _>>=_, unknown, boolean, integer, power}
 use Rattle.walk.specs.Scripts.{Script, perform, three, never-script, atomic-scripts, binary-scripts, unary-scripts, quantified-scripts, no-script, associative-scripts}
 use Rattle.walk.specs.Walk.{each, gather, counted, name, meets, ascription, declare, over, scriptOf, walk, walk-all, walk-pred}
@@ -34,7 +35,7 @@ use Rattle.simulation.specs.Stand.{test-yes, standing, moved-eq, placed-
 use Rattle.simulation.specs.Still.{still-make, still-ascription, still-gave, still-placed, still-meets, still-bound, still-within}
 use Rattle.simulation.specs.StillWalk.{Still, ascribedBy, still-one}
 use Rattle.simulation.specs.Steps.{runs-given, runs-after}
-use Rattle.simulation.specs.Nodes.{Came, Gave, Stood, runs-make, builds-boolean, builds-integer}
+use Rattle.simulation.specs.Nodes.{Came, Gave, Stood, runs-make}
 use Rattle.simulation.specs.Bytes.{byte-of, word-of, drop-past, place-inside}
 use Rattle.simulation.specs.Lift.{moved, moved-at}
 use Rattle.simulation.specs.Names.{runs-free, runs-identifier}

@@ -15,9 +15,11 @@ use Rattle.formula.specs.Tree.{Spelling, spells, no-type, Decl, plain, typed, a
 use Rattle.formula.specs.Spell.{spell-spelling, spell-decl, spell-decls, size-decl, size-decls, Placed-decl, Placed-decls}
 use Rattle.formula_laws.specs.Fits.{Fits-ty, Fits-spelling, Fits-decl, Fits-decls}
 use Rattle.formula_laws.specs.Sizes.{length-decl}
-use Rattle.meter.specs.Meter.{ret}
+use Rattle.meter.specs.Meter.{Out}
 use Rattle.unification.specs.Arena.{U}
-use Rattle.unification.specs.Ops.{exec}
+use Rattle.unification.specs.Make.{builds-unknown}
+use Rattle.unification.specs.Ops.{Bench, exec}
+use Rattle.unification.specs.Exec.{exec-nil}
 use Rattle.walk.specs.Writer.{Row, find, done, _>>=_, enter, own, unknown, problem}
 use Rattle.walk.specs.Walk.{meets, spelled, ascription, claim, at-decl, declare, over}
 use Rattle.inference.specs.Finish.{names}
@@ -31,7 +33,7 @@ use Rattle.simulation.specs.Stand.{test-yes, test-no, standing, runs-if,
 use Rattle.simulation.specs.Still.{still-make, still-moved, still-claim, still-push, still-declare, still-within}
 use Rattle.simulation.specs.Steps.{runs-then, runs-prior}
 use Rattle.simulation.specs.Output.{assoc}
-use Rattle.simulation.specs.Nodes.{Came, Gave, Stood, runs-make, runs-list, builds-unknown}
+use Rattle.simulation.specs.Nodes.{Came, Gave, Stood, runs-make, runs-list}
 use Rattle.simulation.specs.Bytes.{byte-of, drop-past, place-inside}
 use Rattle.simulation.specs.Lift.{moved, moved-at}
 use Rattle.simulation.specs.Slots.{noted-kept, listed-kept, opened-kept, entered-kept, runs-expr}
@@ -204,18 +206,19 @@ module _ (Γ : Env) (env : List ℕ) (cap room : ℕ) (wide : cap ≤ 32768) (br
       }
 
   runs-push : (m : Mach) (B : List ℕ) → length B < 64 → Runs Γ env cap room m (pushBoundOf m) (done tt) B (λ _. m .st .last .0 ∷ B) (To m 0)
-  unfolding done exec ret
+  unfolding done
   runs-push m B l = record {
     ends = λ b row s1 o q fit. (
         let k = o .bound in
         let z : m .st .at .0 ≡ m .st .at .0 + 0 = omega arith in
-        subst (λ (y : Mach). Ended Γ env cap room m y (done tt (b .count) row) (m .st .last .0 ∷ B) (To m 0) (exec cap [] b (m .st .budget))) (sym (push-eq m (s1 .going) (omega arith))) (
+        subst (λ (y : Mach). Ended Γ env cap room m y (done tt (b .count) row) (m .st .last .0 ∷ B) (To m 0) (exec cap [] b (m .st .budget))) (sym (push-eq m (s1 .going) (omega arith)))
+        (subst (λ (x : Out U Bench). Ended Γ env cap room m (pushed m) (done tt (b .count) row) (m .st .last .0 ∷ B) (To m 0) x) (sym (exec-nil cap b (m .st .budget))) (
           record { going = s1 .going; count = s1 .count; words = s1 .words; sized = s1 .sized; counted = s1 .counted; ready = s1 .ready; wrote = s1 .wrote },
           books-pushed m row B l o,
           refl,
           record { taken = omega arith; filled = tt; kept = λ i u. getD-set-other (m .book) (cell 3328 1 (m .st .bound) 0) i (m .st .last .0) 0 (λ e. omega arith) },
           (z, refl),
-        ));
+        )));
   }
 
   -- ---- declarations, one after the other

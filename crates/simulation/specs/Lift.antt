@@ -9,6 +9,7 @@ use lib.Dec.{eqb}
 use borrow.Author.Tests.{eq-eqb}
 use Rattle.types.specs.Ty.{bool, int, given, Ty, base, pow, prod, depth, spell, spellAtom}
 use Rattle.formula.specs.Environment.{Env}
+use Rattle.unification.specs.Make.{builds-boolean, builds-integer, builds-given, builds-power, builds-pair}
 use Rattle.walk.specs.Writer.{W, _>>=_, node, power, pair}
 use Rattle.walk.specs.Walk.{atom, lift}
 use Rattle.machine.specs.declared.State.{State}
@@ -21,7 +22,7 @@ use Rattle.simulation.specs.Stand.{test-yes, standing, moved-eq, runs-if
 use Rattle.simulation.specs.Still.{still-make, still-lift}
 use Rattle.simulation.specs.Steps.{runs-after}
 use Rattle.simulation.specs.Output.{assoc}
-use Rattle.simulation.specs.Nodes.{Came, runs-make, builds-boolean, builds-integer, builds-given, builds-power, builds-pair}
+use Rattle.simulation.specs.Nodes.{Came, runs-make}
 use Rattle.simulation.specs.Bytes.{byte-of, word-of, drop-past, place-inside}
 
 -- the machine n bytes further

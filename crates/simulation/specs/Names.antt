@@ -16,6 +16,7 @@ use Rattle.types.specs.Ty.{Ty, base, pow, prod, bool, int, given, spell}
 use Rattle.formula.specs.Environment.{Entry, lacks, holds, Env}
 use Rattle.unification.specs.Arena.{U}
 use Rattle.unification.specs.Ops.{Op, Bench, Sound, exec}
+use Rattle.unification.specs.Make.{builds-unknown}
 use Rattle.walk.specs.Writer.{Met, Row, Found, at, absent, found, find, Walk, W, done, glue, _>>=_, node, unknown, problem, enrol}
 use Rattle.walk.specs.Walk.{atom, lift, fromEnv, known, counted, name}
 use Rattle.inference.specs.Finish.{Question, askName, names}
@@ -28,7 +29,7 @@ use Rattle.simulation.specs.Bind.{runs-bind}
 use Rattle.simulation.specs.Stand.{test-yes, test-no, standing, placed-eq, gave-eq, stands-standing, books-standing, runs-if, runs-map, runs-stand}
 use Rattle.simulation.specs.Still.{still-make, still-remember, still-enrol, still-placed}
 use Rattle.simulation.specs.Steps.{runs-given, runs-after}
-use Rattle.simulation.specs.Nodes.{Came, Stood, runs-make, runs-list, builds-unknown}
+use Rattle.simulation.specs.Nodes.{Came, Stood, runs-make, runs-list}
 use Rattle.simulation.specs.Slots.{noted-kept, listed-kept, opened-kept, entered-kept, filled-kept, two-others}
 use Rattle.simulation.specs.Lift.{runs-lift}
 

@@ -13,6 +13,7 @@ use Rattle.formula.specs.Environment.{Env}
 use Rattle.unification.specs.Arena.{U}
 use Rattle.unification.specs.Trees.{and-left, and-right}
 use Rattle.unification.specs.Ops.{Op}
+use Rattle.unification.specs.Make.{builds-unknown, builds-boolean, builds-integer, builds-power, builds-pair}
 use Rattle.walk.specs.Writer.{Row, W, done, glue, _>>=_, node, same}
 use Rattle.walk.specs.Scripts.{Ref, arg, new, Item, an-unknown, a-bool, an-int, a-power, a-pair, equal, Script, pick, play}
 use Rattle.machine.specs.declared.State.{State}
@@ -26,7 +27,7 @@ use Rattle.simulation.specs.Bind.{runs-bind}
 use Rattle.simulation.specs.Stand.{test-yes, test-no, gave-eq, runs-if, runs-map, runs-stand}
 use Rattle.simulation.specs.Still.{still-items, still-gave}
 use Rattle.simulation.specs.Steps.{told, runs-same, runs-told, runs-then}
-use Rattle.simulation.specs.Nodes.{Came, Stood, runs-make, runs-expect, builds-unknown, builds-boolean, builds-integer, builds-power, builds-pair}
+use Rattle.simulation.specs.Nodes.{Came, Stood, runs-make, runs-expect}
 
 -- ---- how the machine's table writes a script
 unfoldable pub code : Ref → ℕ

@@ -8,11 +8,12 @@ use lib.ListN.{length, getD, set, length-set}
 use lib.Seq.{getD-set-same, getD-set-other}
 use lib.Dec.{eqb, ltb}
 use borrow.Author.Tests.{lt-ltb, eq-eqb, ne-eqb}
-use Rattle.meter.specs.Meter.{Out, spent, halt, broken, full, tick}
+use Rattle.meter.specs.Meter.{Out, spent, halt, broken, full}
 use Rattle.meter.specs.Meter as Mt
 use Rattle.formula.specs.Environment.{Entry, lacks, holds, Env}
 use Rattle.unification.specs.Arena.{U}
 use Rattle.unification.specs.Ops.{pay, Bench, Sound, exec}
+use Rattle.unification.specs.Exec.{exec-unpaid, exec-paid}
 use Rattle.walk.specs.Writer.{Row, Found, at, absent, find, W, enter, own}
 use Rattle.inference.specs.Finish.{Question, names}
 use Rattle.machine.specs.declared.State.{State}
@@ -106,14 +107,16 @@ module _ (Γ : Env) (env : List ℕ) (cap room : ℕ) where
     enter-by : (through : (paidOf (m .st) .stop ≡ 0 → ⊥) → m2 .st .stop ≡ paidOf (m .st) .stop) → Runs Γ env cap room (withSt (paidOf (m .st)) m) m2 w B B′ Q
         → (b : Bench) (row : Row) → Stands Γ env cap room m b → Books Γ env cap room m row B → Sound (b .count) (w (b .count) row .ops) → m .st .slots + length (w (b .count) row .slots) ≤ 1024
         → (β : ℕ) → m .st .budget ≡ β → Ended Γ env cap room m m2 (enter w (b .count) row) (B′ (w (b .count) row .result)) Q (exec cap (pay ∷ w (b .count) row .ops) b β)
-    unfolding exec tick
-    enter-by through h b row s o q l zero e = let z = paid-none (m .st) (s .going) e in through (λ c. omega arith) ∙ z
+    enter-by through h b row s o q l zero e =
+        let z = paid-none (m .st) (s .going) e in
+        subst (λ (x : Out U Bench). Ended Γ env cap room m m2 (enter w (b .count) row) (B′ (w (b .count) row .result)) Q x) (sym (exec-unpaid cap b (w (b .count) row .ops))) (through (λ c. omega arith) ∙ z)
     enter-by through h b row s o q l (suc r) e =
         let m1 : Mach = withSt (charged r (m .st .slots) (m .st)) m in
         let g = subst (λ (v : State). Runs Γ env cap room (withSt v m) m2 w B B′ Q) (paid-eq (m .st) r (s .going) e) h in
-        entered-ended r (b .count) row (B′ (w (b .count) row .result)) (exec cap (w (b .count) row .ops) b r)
+        subst (λ (x : Out U Bench). Ended Γ env cap room m m2 (enter w (b .count) row) (B′ (w (b .count) row .result)) Q x) (sym (exec-paid cap b (w (b .count) row .ops) r))
+        (entered-ended r (b .count) row (B′ (w (b .count) row .result)) (exec cap (w (b .count) row .ops) b r)
         (g .ends b row (record { going = s .going; count = s .count; words = s .words; sized = s .sized; counted = s .counted; ready = s .ready; wrote = s .wrote })
-        (books-as Γ env cap room m m1 row B refl refl refl o) q l)
+        (books-as Γ env cap room m m1 row B refl refl refl o) q l))
 
     pub runs-enter : ((paidOf (m .st) .stop ≡ 0 → ⊥) → m2 .st .stop ≡ paidOf (m .st) .stop) → Runs Γ env cap room (withSt (paidOf (m .st)) m) m2 w B B′ Q → Runs Γ env cap room m m2 (enter w) B B′ Q
     unfolding enter
@@ -177,18 +180,19 @@ module _ (Γ : Env) (env : List ℕ) (cap room : ℕ) where
     expr-by : (through : (enterOf (m .st) .stop ≡ 0 → ⊥) → v ≡ From (enterOf (m .st))) → Runs Γ env cap room (From (enterOf (m .st))) v w B (λ _. B) (λ x y. Gave a x y)
         → (b : Bench) (row : Row) → Stands Γ env cap room m b → Books Γ env cap room m row B → Sound (b .count) (w (b .count) row .ops) → m .st .slots + suc (length (w (b .count) row .slots)) ≤ 1024
         → (β : ℕ) → m .st .budget ≡ β → Ended Γ env cap room m (leaveOf (m .st .slots) p v) (enter (own p w) (b .count) row) B (λ x y. Came a p x y) (exec cap (pay ∷ w (b .count) row .ops) b β)
-    unfolding exec tick
     expr-by through h b row s o q l zero e =
         let z = enter-none (m .st) (s .going) e in
         let u = through (λ c. omega arith) in
         let y : v .st .stop ≡ 7 = ap (λ (x : Mach). x .st .stop) u ∙ z in
-        ap (λ (x : Mach). x .st .stop) (still-leave (m .st .slots) p v (λ c. omega arith)) ∙ y
+        subst (λ (x : Out U Bench). Ended Γ env cap room m (leaveOf (m .st .slots) p v) (enter (own p w) (b .count) row) B (λ x y. Came a p x y) x) (sym (exec-unpaid cap b (w (b .count) row .ops)))
+        (ap (λ (x : Mach). x .st .stop) (still-leave (m .st .slots) p v (λ c. omega arith)) ∙ y)
     expr-by through h b row s o q l (suc r) e =
         let m1 : Mach = From (charged r (m .st .slots + 1) (m .st)) in
         let g = subst (λ (u : State). Runs Γ env cap room (From u) v w B (λ _. B) (λ x y. Gave a x y)) (enter-eq (m .st) r (s .going) e (omega arith)) h in
-        left-ended r (b .count) row (exec cap (w (b .count) row .ops) b r) (omega arith) (omega arith)
+        subst (λ (x : Out U Bench). Ended Γ env cap room m (leaveOf (m .st .slots) p v) (enter (own p w) (b .count) row) B (λ x y. Came a p x y) x) (sym (exec-paid cap b (w (b .count) row .ops) r))
+        (left-ended r (b .count) row (exec cap (w (b .count) row .ops) b r) (omega arith) (omega arith)
         (g .ends b row (record { going = s .going; count = s .count; words = s .words; sized = s .sized; counted = s .counted; ready = s .ready; wrote = s .wrote })
-        (books-as Γ env cap room m m1 row B refl refl refl o) q (omega arith))
+        (books-as Γ env cap room m m1 row B refl refl refl o) q (omega arith)))
 
     pub runs-expr : ((enterOf (m .st) .stop ≡ 0 → ⊥) → v ≡ From (enterOf (m .st))) → Runs Γ env cap room (From (enterOf (m .st))) v w B (λ _. B) (λ x y. Gave a x y)
         → Runs Γ env cap room m (leaveOf (m .st .slots) p v) (enter (own p w)) B (λ _. B) (λ x y. Came a p x y)

@@ -8,11 +8,12 @@ use native.Mathlib.Omega.{arith}
 use lib.ListN.{length, getD}
 use lib.Dec.{eqb, ltb}
 use borrow.Author.Tests.{lt-ltb, eq-eqb}
-use Rattle.meter.specs.Meter.{Out, spent, halt, broken, full, ret}
+use Rattle.meter.specs.Meter.{Out, spent, halt, broken, full}
 use Rattle.meter.specs.Meter as Mt
 use Rattle.unification.specs.Arena.{U}
 use Rattle.formula.specs.Environment.{Env}
 use Rattle.unification.specs.Ops.{Bench, exec}
+use Rattle.unification.specs.Exec.{exec-nil}
 use Rattle.walk.specs.Writer.{Row, find, Walk, W, done}
 use Rattle.inference.specs.Finish.{names}
 use Rattle.machine.specs.declared.State.{State}
@@ -91,8 +92,9 @@ module _ (Γ : Env) (env : List ℕ) (cap room : ℕ) where
 
   -- the empty piece
   pub runs-stand : {A : Type 0} (m : Mach) (p f r : ℕ) (a : A) (B : List ℕ) (Q : A → Mach → Type 0) → Q a (withSt (standing p f r (m .st)) m) → Runs Γ env cap room m (withSt (standing p f r (m .st)) m) (done a) B (λ _. B) Q
-  unfolding done exec ret
+  unfolding done
   runs-stand m p f r a B Q h = record {
     ends = λ b row s o q l.
+        subst (λ (x : Out U Bench). Ended Γ env cap room m (withSt (standing p f r (m .st)) m) (done a (b .count) row) B Q x) (sym (exec-nil cap b (m .st .budget)))
         (stands-standing m b p f r s, books-standing m row B p f r o, refl, record { taken = omega arith; filled = tt; kept = λ i z. refl }, h);
   }

@@ -12,6 +12,7 @@ use Rattle.types.specs.Ty.{bool, int, given, Ty, base, pow, prod, depth, spell,
 use Rattle.formula.specs.Environment.{Entry, lacks, holds, Env}
 use Rattle.unification.specs.Arena.{U}
 use Rattle.unification.specs.Ops.{Bench}
+use Rattle.unification.specs.Make.{builds-given, builds-power}
 use Rattle.walk.specs.Writer.{Row, W, done, _>>=_, same, given-set, power}
 use Rattle.walk.specs.Walk.{lift, name, notes, meets, spelled}
 use Rattle.walk.specs.Walk as K
@@ -25,7 +26,7 @@ use Rattle.simulation.specs.Stand.{test-yes, test-no, standing, moved-eq
 use Rattle.simulation.specs.Still.{still-make, still-expect, still-notes, still-meets, still-placed}
 use Rattle.simulation.specs.Steps.{runs-given, runs-after}
 use Rattle.simulation.specs.Output.{assoc}
-use Rattle.simulation.specs.Nodes.{Came, Stood, runs-make, runs-expect, builds-given, builds-power}
+use Rattle.simulation.specs.Nodes.{Came, Stood, runs-make, runs-expect}
 use Rattle.simulation.specs.Bytes.{byte-of, word-of, drop-past, place-inside}
 use Rattle.simulation.specs.Lift.{moved, moved-at, head, runs-lift}
 use Rattle.simulation.specs.Names.{runs-free}

@@ -117,6 +117,21 @@ not-restricted t =
     let e = p .2 .1 .0 in let g = p .2 .1 .1 .0 in
     let z : _≡_ {A = ℕ} 0 1 = cc in omega arith
 
+-- f ⊗ f from ℤ to BOOL × BOOL
+direct : By functions (expression (binary 0 14 (free 2 0) (free 5 0))) (relation Z (prod B B) ∷ relation Z B ∷ relation Z B ∷ []) Z
+unfolding Typed look firstOf binary-rules _⟷_ read parts from-list letters slots named
+direct = record { agrees = named-agrees Z; rules = (refl, refl, (letters Z B, (refl, (refl, (refl, tt))))) }
+
+-- f ⊗ g: f starts in ℤ, g in BOOL
+not-direct : None functions (expression (binary 0 14 (free 2 0) (free 5 1)))
+unfolding Typed look firstOf binary-rules _⟷_ read parts slots functions
+not-direct t =
+    let p = t .2 .rules in
+    let f = t .2 .agrees 0 (relation Z B) refl in let g = t .2 .agrees 1 (relation B Z) refl in
+    let l = p .0 in let m = p .1 in
+    let e = p .2 .1 .0 in let h = p .2 .1 .1 .0 in
+    let z : _≡_ {A = ℕ} 0 1 = cc in omega arith
+
 -- ∅ ∪ {0}
 union : By empty (expression (associative 0 0 (more (atomic 4 8) (more (extension 6 (more (literal 9) none)) none)))) (pow Z ∷ pow Z ∷ pow Z ∷ Z ∷ []) Z
 unfolding Typed look firstOf atomic-rules associative-rules read parts from-list letters slots types extension-rule

@@ -26,8 +26,10 @@ abbrev pub pick : Bool → Node → Node → Node
 pick true x y = x
 pick false x y = y
 
--- three words as a node. Kinds: 40 BOOL, 41 ℤ, 42 given, 43 power, 44 product, 4E an unknown, 4D an unknown bound to a
-unfoldable pub decode : ℕ → ℕ → ℕ → Node
+-- three words as a node. Kinds: 40 BOOL, 41 ℤ, 42 given, 43 power, 44 product, 4E an unknown, 4D an unknown bound to a.
+-- This is vocabulary, as `Node` is: what is said of a node that is made is said of `decode k a b`. So it computes wherever it stands
+-- and is none of the definitions behind the laws.
+abbrev pub decode : ℕ → ℕ → ℕ → Node
 decode kind a b =
     pick (eqb kind 0x4E) free
     (pick (eqb kind 0x4D) (link a)
@@ -42,7 +44,7 @@ unfoldable pub inside : List ℕ → ℕ → ℕ → Bool
 inside ws n x = ltb x n && ltb (3 * x + 2) (length ws)
 
 unfoldable pub nodeAt : List ℕ → ℕ → ℕ → Node
-unfolding inside decode
+unfolding inside
 nodeAt ws n x = pick (inside ws n x) (decode (getD ws (3 * x) 0) (getD ws (3 * x + 1) 0) (getD ws (3 * x + 2) 0)) bad
 
 -- the words after the unknown at v is bound to t

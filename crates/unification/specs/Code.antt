@@ -378,15 +378,12 @@ module _ (ws : Words) (n : ℕ) where
 
 -- the node reached, by its kind
 pub decode-free : (k a b : ℕ) → k ≡ 0x4E → decode k a b ≡ free
-unfolding decode
 decode-free k a b e = rw e refl
 
 pub decode-power : (k a b : ℕ) → k ≡ 0x43 → decode k a b ≡ power a
-unfolding decode
 decode-power k a b e = rw e refl
 
 pub decode-pair : (k a b : ℕ) → k ≡ 0x44 → decode k a b ≡ pair a b
-unfolding decode
 decode-pair k a b e = rw e refl
 
 module _ (ws : Words) (n : ℕ) (t b l r k x y : ℕ) (e : reach ws n t b ≡ done (r, decode k x y) l) where

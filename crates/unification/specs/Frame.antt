@@ -16,9 +16,9 @@ use lib.Dec.{ltb, eqb}
 use lib.ListN.{length, getD, set, length-append, length-set, List·getD-append}
 use lib.Seq.{getD-set-same, getD-set-other, getD-append-add, ext-getD}
 use borrow.Author.Tests.{lt-ltb, le-ltb}
-use Rattle.meter.specs.Meter.{Out, spent, halt, done, Why, broken, full, M, ret, fail, tick, on, _>>=_, atE, reading, run, iter, forgetE, forget}
+use Rattle.meter.specs.Meter.{Out, spent, halt, done, Why, broken, full, M, ret, fail, tick, on, _>>=_, atE, reading, mapped, run, iter, forgetE, forget}
 use Rattle.types.specs.Ty.{Atom, Ty}
-use Rattle.unification.specs.Arena.{Node, free, link, leaf, power, pair, bad, Words, U, inside, decode, nodeAt, bindAt, choose, follow, resolveF, resolve, inNode, occursF, occurs, allNode, solvedF, solved, typeNode, readF, read, Verdict, unified, mismatch, circular, Meeting, bindLeft, bindRight, agree, clash, down, both, sameAtom, verdictOf, meet, Pair, Answer, bound, assign, next, meeting, unifyAt, unifyF, unify}
+use Rattle.unification.specs.Arena.{Node, free, link, leaf, power, pair, bad, Words, U, inside, nodeAt, bindAt, choose, follow, resolveF, resolve, inNode, occursF, occurs, allNode, solvedF, solved, typeNode, readF, read, Verdict, unified, mismatch, circular, Meeting, bindLeft, bindRight, agree, clash, down, both, sameAtom, verdictOf, meet, Pair, Answer, bound, assign, next, meeting, unifyAt, unifyF, unify}
 use Rattle.unification.specs.Good.{inside-yes, inside-no, node-in, node-out, length-bind, pushAt, length-push}
 use Rattle.unification.specs.Ops.{Op, pay, make, compare, list, Bench, noted, grow, learn, complain, exec, nodes}
 
@@ -427,12 +427,6 @@ module _ (cap : ℕ) where
       (exec-same os (s .count) (s .words) (s′ .words) (s .problems) h r (subst (λ (n : ℕ). Room cap (nodes os) n (s′ .words)) (sym e) r′) b)
 
 -- ---- an arena at the front of a larger memory
-
--- what is done to the answer is done to the outcome
-unfoldable pub mapped : {E A B : Type 0} → (A → B) → Out E A → Out E B
-mapped f (spent e) = spent e
-mapped f (halt w e) = halt w e
-mapped f (done a r) = done (f a) r
 
 unfoldable pub beside : Words → Bench → Bench
 beside rest s = record { count = s .count; words = s .words ++ rest; problems = s .problems }

@@ -371,7 +371,6 @@ unfolding nodeAt
 node-as ws ws′ n n′ x e p q r = rw (e, p, q, r) refl
 
 pub node-bind-same : (ws : Words) (n v t : ℕ) → v < n → 3 * n ≤ length ws → nodeAt (bindAt ws v t) n v ≡ link t
-unfolding decode
 node-bind-same ws n v t l s = node-in (bindAt ws v t) n v (inside-yes (bindAt ws v t) n v l (rw (length-bind ws v t) s))
     ∙ rw (word-kind ws v t (omega arith), word-link ws v t (omega arith)) refl
 

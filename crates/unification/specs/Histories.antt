@@ -42,18 +42,18 @@ module _ (n : ℕ) (ws : Words) (R : Reached n ws) (b k x y : ℕ) (i : Inside n
 
 module _ (n : ℕ) (ws : Words) (R : Reached n ws) (b : ℕ) where
   if-power : (x : ℕ) (c : Bool) → ltb x n ≡ c → After n ws (choose c (makeOf ws n 0x43 x 0) (fail broken ws) b)
-  unfolding choose fail decode
+  unfolding choose fail
   if-power x true e = make-reached n ws R b 0x43 x 0 (ltb-true x n e)
   if-power x false e = refl
 
   if-pair : (x y : ℕ) (c : Bool) → ltb x n && ltb y n ≡ c → After n ws (choose c (makeOf ws n 0x44 x y) (fail broken ws) b)
-  unfolding choose fail decode
+  unfolding choose fail
   if-pair x y true e = make-reached n ws R b 0x44 x y (ltb-true x n (and-left (ltb x n) (ltb y n) e), ltb-true y n (and-right (ltb x n) (ltb y n) e))
   if-pair x y false e = refl
 
   -- every maker, at every budget
   pub build-reached : (nd : Node) → After n ws (build ws n nd b)
-  unfolding build fail decode
+  unfolding build fail
   build-reached free = make-reached n ws R b 0x4E 0 0 tt
   build-reached (link j) = refl
   build-reached (leaf bool) = make-reached n ws R b 0x40 0 0 tt

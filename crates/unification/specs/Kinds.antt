@@ -59,7 +59,6 @@ module _ (k a b : ℕ) where
 
   -- three words, read
   pub kind-of : Kind k a b (decode k a b)
-  unfolding decode
   kind-of = at-free (eqb k 0x4E) refl
 
   in-range : (nd : Node) → Kind k a b nd → 0x40 ≤ k → k ≤ 0x44 → Root nd

@@ -1,4 +1,5 @@
 pub mod Arena
+pub mod Arenas
 pub mod Steps
 pub mod Trees
 pub mod Good
@@ -8,6 +9,7 @@ pub mod Twin
 pub mod Laws
 pub mod History
 pub mod Ops
+pub mod Exec
 pub mod Code
 pub mod Kinds
 pub mod Tasks

@@ -4,14 +4,15 @@
 -- for three words more (full, 6); or the count itself lies past the slice, a part is no node of the arena, or the next count would not fit 32 bits (broken, 2).
 use Prim.Native.Nat.{ℕ, zero, suc, _+_, _*_, _≤_, _<_}
 use mathlib.Core.Path.{_≡_, refl, sym, _∙_, ap, ap₂, subst}
+use mathlib.Core.Logic.{_≢_}
 use mathlib.Core.Bool.{Bool, true, false, _&&_}
 use native.Mathlib.Omega.{arith}
-use lib.Dec.{ltb}
+use lib.Dec.{ltb, eqb}
 use lib.ListN.{length}
-use borrow.Author.Tests.{lt-ltb, le-ltb, ltb-true}
+use borrow.Author.Tests.{lt-ltb, le-ltb, ltb-true, ne-eqb}
 use Rattle.meter.specs.Meter.{Out, spent, halt, done, Why, broken, full, M, ret, fail, _>>=_, bind-ret, bind-fail}
 use Rattle.types.specs.Ty.{Atom, bool, int, given}
-use Rattle.unification.specs.Arena.{Node, free, link, leaf, power, pair, bad, Words, choose}
+use Rattle.unification.specs.Arena.{Node, free, link, leaf, power, pair, bad, pick, decode, Words, choose}
 use Rattle.unification.specs.Good.{Inside, pushAt}
 
 -- three words for the next node
@@ -62,6 +63,42 @@ build-power ws n x l = rw (lt-ltb x n l) refl
 pub build-pair : (ws : Words) (n x y : ℕ) → x < n → y < n → build ws n (pair x y) ≡ makeOf ws n 0x44 x y
 unfolding build choose
 build-pair ws n x y l h = rw (lt-ltb x n l, lt-ltb y n h) refl
+
+-- a kind is built as its three words: what `make k a b` of a list of operations asks of a maker
+abbrev pub Builds : ℕ → ℕ → ℕ → Type 0
+Builds k a b = (ws : Words) (n : ℕ) → Inside n (decode k a b) → build ws n (decode k a b) ≡ makeOf ws n k a b
+
+pub builds-unknown : Builds 0x4E 0 0
+unfolding build
+builds-unknown ws n h = refl
+
+pub builds-boolean : Builds 0x40 0 0
+unfolding build
+builds-boolean ws n h = refl
+
+pub builds-integer : Builds 0x41 0 0
+unfolding build
+builds-integer ws n h = refl
+
+pub builds-given : (x : ℕ) → Builds 0x42 x 0
+unfolding build
+builds-given x ws n h = refl
+
+pub builds-power : (x : ℕ) → Builds 0x43 x 0
+builds-power x ws n h = build-power ws n x h
+
+pub builds-pair : (x y : ℕ) → Builds 0x44 x y
+builds-pair x y ws n h = build-pair ws n x y (h .0) (h .1)
+
+-- of any other kind no node is made
+link-or-bad : (ws : Words) (n a : ℕ) (c : Bool) → build ws n (pick c (link a) bad) ≡ fail broken ws
+unfolding build
+link-or-bad ws n a true = refl
+link-or-bad ws n a false = refl
+
+pub builds-no-other : (ws : Words) (n k a b : ℕ) → k ≢ 0x4E → k ≢ 0x40 → k ≢ 0x41 → k ≢ 0x42 → k ≢ 0x43 → k ≢ 0x44 → build ws n (decode k a b) ≡ fail broken ws
+builds-no-other ws n k a b h0 h1 h2 h3 h4 h5 =
+    rw (ne-eqb k 0x4E h0, ne-eqb k 0x40 h1, ne-eqb k 0x41 h2, ne-eqb k 0x42 h3, ne-eqb k 0x43 h4, ne-eqb k 0x44 h5) (link-or-bad ws n a (eqb k 0x4D))
 
 -- the power of a product, step by step
 module _ (ws : Words) (n x y : ℕ) where

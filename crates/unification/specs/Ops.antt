@@ -196,11 +196,11 @@ module _ (cap : ℕ) where
   ran-nil s r = record { ready = r; counted = omega arith; takes = λ σ A m. A; judged = clean refl (λ σ A. (A, tt)); kept = λ z h. h; told = λ z h. absurd h; whence = λ z h. before h }
 
   -- a node made
-  module _ (s : Bench) (k a b : ℕ) (os : List Op) (r : Ready cap s) (l : s .count < cap) (i : Inside (s .count) (decode k a b)) where
+  module _ (s : Bench) (k a b : ℕ) (r : Ready cap s) (l : s .count < cap) (i : Inside (s .count) (decode k a b)) where
     room : 3 * suc (s .count) ≤ length (s .words)
     room = let q = r .roomy in omega arith
 
-    grown-ready : Ready cap (grow s k a b)
+    pub grown-ready : Ready cap (grow s k a b)
     unfolding grow
     grown-ready = record {
       roomy = rw (length-push (s .words) (s .count) k a b) (r .roomy);
@@ -219,16 +219,20 @@ module _ (cap : ℕ) where
         let p = push-keeps (s .count) (nodeAt (s .words) (s .count)) (nodeAt (pushAt (s .words) (s .count) k a b) (suc (s .count))) (node-push-old (s .words) (s .count) k a b room) σ A in
         (p .0, subst (λ (d : Node). Says σ (s .count) d) (node-push-new (s .words) (s .count) k a b room) (p .1))
 
-    grown-judged : (s′ : Bench) → Judged (grow s k a b) os s′ → Judged s (make k a b ∷ os) s′
+    grown-judged : (os : List Op) (s′ : Bench) → Judged (grow s k a b) os s′ → Judged s (make k a b ∷ os) s′
     unfolding grow
-    grown-judged s′ (clean e f) = clean e (λ σ A. (let p = f σ A in let q = grown-keeps σ (p .0) in (q .0, (q .1, p .1))))
-    grown-judged s′ (hopeless e f) = hopeless e (λ σ A m. f σ (grown-takes σ A (m .0)) (m .1))
+    grown-judged os s′ (clean e f) = clean e (λ σ A. (let p = f σ A in let q = grown-keeps σ (p .0) in (q .0, (q .1, p .1))))
+    grown-judged os s′ (hopeless e f) = hopeless e (λ σ A m. f σ (grown-takes σ A (m .0)) (m .1))
 
-    grown-ran : (s′ : Bench) → Ran cap (grow s k a b) os s′ → Ran cap s (make k a b ∷ os) s′
+    grown-ran : (os : List Op) (s′ : Bench) → Ran cap (grow s k a b) os s′ → Ran cap s (make k a b ∷ os) s′
     unfolding grow
-    grown-ran s′ h = record { ready = h .ready; counted = (let q = h .counted in omega arith); takes = λ σ A m. h .takes σ (grown-takes σ A (m .0)) (m .1); judged = grown-judged s′ (h .judged); kept = h .kept; told = h .told; whence = h .whence }
+    grown-ran os s′ h = record { ready = h .ready; counted = (let q = h .counted in omega arith); takes = λ σ A m. h .takes σ (grown-takes σ A (m .0)) (m .1); judged = grown-judged os s′ (h .judged); kept = h .kept; told = h .told; whence = h .whence }
 
   -- a problem of the walk's own
+  pub complain-ready : (s : Bench) (q p : ℕ) → Ready cap s → Ready cap (complain s q p)
+  unfolding complain
+  complain-ready s q p r = record { roomy = r .roomy; good = r .good }
+
   complain-ran : (s : Bench) (q p : ℕ) (os : List Op) (s′ : Bench) → Ran cap (complain s q p) os s′ → Ran cap s (list q p ∷ os) s′
   unfolding complain
   complain-ran s q p os s′ h = record { ready = h .ready; counted = h .counted; takes = λ σ A m. absurd m; judged = hopeless (more (h .judged)) (λ σ A m. m); kept = λ z i. h .kept z (in-left z (s .problems) ((q, p) ∷ []) i); told = λ z i. say z i; whence = λ z i. whence-listed z (q, p) (s .problems) (listed os) (h .whence z i) }
@@ -242,29 +246,29 @@ module _ (cap : ℕ) where
       more (hopeless e f) = let z = length-append (s .problems) ((q, p) ∷ []) in omega arith
 
   -- a comparison
-  module _ (s : Bench) (a b p : ℕ) (os : List Op) where
+  module _ (s : Bench) (a b p : ℕ) where
     abbrev Eqn : Assignment → Type 0
     Eqn σ = σ a ≡ σ b
 
-    failed-judged : (v : Verdict) (ws′ : Words) (s′ : Bench) → ((σ : Assignment) → Admitted s σ → Eqn σ → ⊥) → length (s .problems) < length (noted v p (s .problems)) → Judged (learn s p (v, ws′)) os s′ → Judged s (compare a b p ∷ os) s′
+    failed-judged : (os : List Op) (v : Verdict) (ws′ : Words) (s′ : Bench) → ((σ : Assignment) → Admitted s σ → Eqn σ → ⊥) → length (s .problems) < length (noted v p (s .problems)) → Judged (learn s p (v, ws′)) os s′ → Judged s (compare a b p ∷ os) s′
     unfolding learn
-    failed-judged v ws′ s′ n l (clean e f) = let y = ap length e in hopeless (omega arith) (λ σ A m. n σ A (m .0))
-    failed-judged v ws′ s′ n l (hopeless e f) = hopeless (omega arith) (λ σ A m. n σ A (m .0))
+    failed-judged os v ws′ s′ n l (clean e f) = let y = ap length e in hopeless (omega arith) (λ σ A m. n σ A (m .0))
+    failed-judged os v ws′ s′ n l (hopeless e f) = hopeless (omega arith) (λ σ A m. n σ A (m .0))
 
-    learnt-judged : (v : Verdict) (ws′ : Words) → Kept (s .count) (s .words) Eqn ws′ → Judges (s .count) (s .words) Eqn ws′ v → (s′ : Bench) → Judged (learn s p (v, ws′)) os s′ → Judged s (compare a b p ∷ os) s′
+    learnt-judged : (os : List Op) (v : Verdict) (ws′ : Words) → Kept (s .count) (s .words) Eqn ws′ → Judges (s .count) (s .words) Eqn ws′ v → (s′ : Bench) → Judged (learn s p (v, ws′)) os s′ → Judged s (compare a b p ∷ os) s′
     unfolding learn noted
-    learnt-judged unified ws′ k j s′ (clean e f) = clean e (λ σ A. (let q = f σ A in (k .keeps σ (q .0), (j σ (q .0), q .1))))
-    learnt-judged unified ws′ k j s′ (hopeless e f) = hopeless e (λ σ A m. f σ (k .takes σ A (m .0)) (m .1))
-    learnt-judged mismatch ws′ k j s′ h = failed-judged mismatch ws′ s′ j (let z = length-append (s .problems) ((0, p) ∷ []) in omega arith) h
-    learnt-judged circular ws′ k j s′ h = failed-judged circular ws′ s′ j (let z = length-append (s .problems) ((1, p) ∷ []) in omega arith) h
+    learnt-judged os unified ws′ k j s′ (clean e f) = clean e (λ σ A. (let q = f σ A in (k .keeps σ (q .0), (j σ (q .0), q .1))))
+    learnt-judged os unified ws′ k j s′ (hopeless e f) = hopeless e (λ σ A m. f σ (k .takes σ A (m .0)) (m .1))
+    learnt-judged os mismatch ws′ k j s′ h = failed-judged os mismatch ws′ s′ j (let z = length-append (s .problems) ((0, p) ∷ []) in omega arith) h
+    learnt-judged os circular ws′ k j s′ h = failed-judged os circular ws′ s′ j (let z = length-append (s .problems) ((1, p) ∷ []) in omega arith) h
 
-    learnt-ready : (o : Answer) → Ready cap s → Kept (s .count) (s .words) Eqn (o .1) → Ready cap (learn s p o)
+    pub learnt-ready : (o : Answer) → Ready cap s → Kept (s .count) (s .words) Eqn (o .1) → Ready cap (learn s p o)
     unfolding learn
     learnt-ready o r k = record { roomy = rw (k .sized) (r .roomy); good = k .good }
 
-    learnt-ran : (o : Answer) → Outcome (s .count) (s .words) Eqn o → (s′ : Bench) → Ran cap (learn s p o) os s′ → Ran cap s (compare a b p ∷ os) s′
+    learnt-ran : (os : List Op) (o : Answer) → Outcome (s .count) (s .words) Eqn o → (s′ : Bench) → Ran cap (learn s p o) os s′ → Ran cap s (compare a b p ∷ os) s′
     unfolding learn
-    learnt-ran o g s′ h = record { ready = h .ready; counted = h .counted; takes = λ σ A m. h .takes σ (g .kept .takes σ A (m .0)) (m .1); judged = learnt-judged (o .0) (o .1) (g .kept) (g .judged) s′ (h .judged); kept = λ z i. h .kept z (in-noted (o .0) p z (s .problems) i); told = h .told; whence = λ z i. whence-noted (o .0) p z (s .problems) (listed os) (h .whence z i) }
+    learnt-ran os o g s′ h = record { ready = h .ready; counted = h .counted; takes = λ σ A m. h .takes σ (g .kept .takes σ A (m .0)) (m .1); judged = learnt-judged os (o .0) (o .1) (g .kept) (g .judged) s′ (h .judged); kept = λ z i. h .kept z (in-noted (o .0) p z (s .problems) i); told = h .told; whence = λ z i. whence-noted (o .0) p z (s .problems) (listed os) (h .whence z i) }
 
   pay-judged : (s : Bench) (os : List Op) (s′ : Bench) → Judged s os s′ → Judged s (pay ∷ os) s′
   pay-judged s os s′ (clean e f) = clean e f
@@ -278,27 +282,27 @@ module _ (cap : ℕ) where
   exec-exact (make k a b ∷ os) s r w l =
       let q : s .count < cap = omega arith in
       exact-eq (ap (λ (c : Bool). choose c (exec cap os (grow s k a b)) (fail full tt)) (lt-ltb (s .count) cap q))
-      (exact-map (λ _ u. u) (λ s′ h. grown-ran s k a b os r q (w .0) s′ h) (exec-exact os (grow s k a b) (grown-ready s k a b os r q (w .0)) (w .1) (omega arith)))
+      (exact-map (λ _ u. u) (λ s′ h. grown-ran s k a b r q (w .0) os s′ h) (exec-exact os (grow s k a b) (grown-ready s k a b r q (w .0)) (w .1) (omega arith)))
   exec-exact (compare a b p ∷ os) s r w l =
       exact-bind (exact-forget (unify-exact (s .count) (s .words) (let q = r .roomy in omega arith) (r .good) a b (w .0) (w .1)))
-      (λ o g. exact-map (λ _ u. u) (λ s′ h. learnt-ran s a b p os o g s′ h) (exec-exact os (learn s p o) (learnt-ready s a b p os o r (g .kept)) (w .2) l))
-  exec-exact (list q p ∷ os) s r w l = exact-map (λ _ u. u) (λ s′ h. complain-ran s q p os s′ h) (exec-exact os (complain s q p) (record { roomy = r .roomy; good = r .good }) w l)
+      (λ o g. exact-map (λ _ u. u) (λ s′ h. learnt-ran s a b p os o g s′ h) (exec-exact os (learn s p o) (learnt-ready s a b p o r (g .kept)) (w .2) l))
+  exec-exact (list q p ∷ os) s r w l = exact-map (λ _ u. u) (λ s′ h. complain-ran s q p os s′ h) (exec-exact os (complain s q p) (complain-ready s q p r) w l)
 
   -- the capacity ends inside the list: it halts full from some budget on, and below that it is spent; nothing else can happen
   pub exec-full : (os : List Op) (s : Bench) → Ready cap s → Sound (s .count) os → s .count ≤ cap → cap < s .count + nodes os → (c : ℕ) × Halts (exec cap os s) full tt c
   unfolding exec choose grow learn complain
   exec-full [] s r w l f = absurd (omega arith)
   exec-full (pay ∷ os) s r w l f = let z = exec-full os s r w l f in (suc (z .0), halts-tick tt (z .1))
-  exec-full (make k a b ∷ os) s r w l f = at-make (decLt (s .count) cap) (λ q. exec-full os (grow s k a b) (grown-ready s k a b os r q (w .0)) (w .1) (omega arith) (omega arith))
+  exec-full (make k a b ∷ os) s r w l f = at-make (decLt (s .count) cap) (λ q. exec-full os (grow s k a b) (grown-ready s k a b r q (w .0)) (w .1) (omega arith) (omega arith))
     where
       at-make : Dec (s .count < cap) → (s .count < cap → (c : ℕ) × Halts (exec cap os (grow s k a b)) full tt c) → (c : ℕ) × Halts (choose (ltb (s .count) cap) (exec cap os (grow s k a b)) (fail full tt)) full tt c
       at-make (yes q) rec = let z = rec q in (z .0, halts-eq (ap (λ (c : Bool). choose c (exec cap os (grow s k a b)) (fail full tt)) (lt-ltb (s .count) cap q)) (z .1))
       at-make (no q) rec = (0, halts-eq (ap (λ (c : Bool). choose c (exec cap os (grow s k a b)) (fail full tt)) (le-ltb (s .count) cap (omega arith))) (halts-fail full tt))
   exec-full (compare a b p ∷ os) s r w l f =
       let x = exact-forget (unify-exact (s .count) (s .words) (let q = r .roomy in omega arith) (r .good) a b (w .0) (w .1)) in
-      let z = exec-full os (learn s p (x .answer)) (learnt-ready s a b p os (x .answer) r (x .holds .kept)) (w .2) l f in
+      let z = exec-full os (learn s p (x .answer)) (learnt-ready s a b p (x .answer) r (x .holds .kept)) (w .2) l f in
       (x .cost + z .0, halts-bind (λ o. exec cap os (learn s p o)) x (z .1))
-  exec-full (list q p ∷ os) s r w l f = exec-full os (complain s q p) (record { roomy = r .roomy; good = r .good }) w l f
+  exec-full (list q p ∷ os) s r w l f = exec-full os (complain s q p) (complain-ready s q p r) w l f
 
 -- the same bench and a larger capacity: a list whose nodes fit runs as before
 pub exec-wider : (cap cap′ : ℕ) (os : List Op) (s : Bench) → s .count + nodes os ≤ cap → cap ≤ cap′ → exec cap os s ≡ exec cap′ os s

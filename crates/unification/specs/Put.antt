@@ -7,11 +7,12 @@ use Prim.Native.Nat.{ℕ, zero, suc, _+_, _-_, _*_, _/_, _%_, _≤_, _<_}
 use mathlib.Core.Path.{_≡_, refl, sym, _∙_, ap, ap₂, subst, fun-ext}
 use mathlib.Core.Logic.{_≢_}
 use mathlib.Core.Bool.{Bool, true, false}
-use mathlib.Core.List.{List, [], _∷_, _++_}
+use mathlib.Core.List.{List, [], _∷_, _++_, append-nil, append-assoc}
 use native.Mathlib.Omega.{arith}
 use native.Mathlib.Decide.{decLt, decLe}
 use lib.Dec.{ltb}
-use lib.ListN.{length, set, length-append, length-set}
+use lib.ListN.{length, take, set, length-append, length-set}
+use lib.Seq.{take-suc-set}
 use borrow.Author.Tests.{lt-ltb, le-ltb}
 use Rattle.meter.specs.Meter.{Out, spent, halt, done, Why, broken, full, M, ret, fail, tick, on, _>>=_, atE, reading, run, Metered, Paid, metered-ret, metered-fail, metered-tick, metered-bind, metered-reading, Agree, agree-refl, agree-tick, agree-bind, run-metered, run-eq, bind-ret, bind-assoc, reading-bind, reading-tick, reading-ret, tick-bind, within-le}
 use Rattle.types.specs.Ty.{Atom, bool, int, given, Ty, base, pow, prod, spellAtom, spell, AtomBelow, bool-below, int-below, given-below, Below}
@@ -149,15 +150,15 @@ module _ (ws : Words) (n : ℕ) (p : Page) (at t b : ℕ) where
       to nd q = put-at r m (decode k x y) e ∙ ap (λ (d : Node). putNode (put ws n) p at d m) q
 
       pub put-bool : k ≡ 0x40 → put ws n (p, at, t) b ≡ done (at + 1, set p at 0x40) m
-      unfolding putNode putAtom ret decode
+      unfolding putNode putAtom ret
       put-bool z = to (leaf bool) (rw z refl)
 
       pub put-int : k ≡ 0x41 → put ws n (p, at, t) b ≡ done (at + 1, set p at 0x41) m
-      unfolding putNode putAtom ret decode
+      unfolding putNode putAtom ret
       put-int z = to (leaf int) (rw z refl)
 
       named : k ≡ 0x42 → put ws n (p, at, t) b ≡ room p at 3 (ret (at + 3, set (set (set p at 0x42) (at + 1) (x % 256)) (at + 2) (x / 256 % 256))) m
-      unfolding putNode putAtom decode
+      unfolding putNode putAtom
       named z = to (leaf (given x)) (rw z refl)
 
       pub put-given : k ≡ 0x42 → at + 3 ≤ length p → put ws n (p, at, t) b ≡ done (at + 3, set (set (set p at 0x42) (at + 1) (x % 256)) (at + 2) (x / 256 % 256)) m
@@ -169,11 +170,11 @@ module _ (ws : Words) (n : ℕ) (p : Page) (at t b : ℕ) where
       put-given-full z h = named z ∙ ap (λ (c : Bool). choose c (fail full p) (ret (at + 3, set (set (set p at 0x42) (at + 1) (x % 256)) (at + 2) (x / 256 % 256))) m) (lt-ltb (length p) (at + 3) h)
 
       pub put-power : k ≡ 0x43 → put ws n (p, at, t) b ≡ put ws n (set p at 0x43, at + 1, x) m
-      unfolding putNode decode
+      unfolding putNode
       put-power z = to (power x) (rw z refl)
 
       both : k ≡ 0x44 → put ws n (p, at, t) b ≡ (put ws n (set p at 0x44, at + 1, x) >>= λ o. put ws n (o .1, o .0, y)) m
-      unfolding putNode decode
+      unfolding putNode
       both z = to (pair x y) (rw z refl)
 
       pub put-right : k ≡ 0x44 → (a l : ℕ) (q : Page) → put ws n (set p at 0x44, at + 1, x) m ≡ done (a, q) l → put ws n (p, at, t) b ≡ put ws n (q, a, y) l
@@ -216,6 +217,20 @@ pub lay-append : (p : Page) (at : ℕ) (xs ys : List ℕ) → lay p at (xs ++ ys
 unfolding lay
 lay-append p at [] ys = ap (λ (i : ℕ). lay p i ys) (omega arith)
 lay-append p at (x ∷ xs) ys = lay-append (set p at x) (at + 1) xs ys ∙ ap (λ (i : ℕ). lay (lay (set p at x) (at + 1) xs) i ys) (omega arith)
+
+-- where they fit, they stand after what stood before
+pub lay-take : (p : Page) (at : ℕ) (bs : List ℕ) → at + length bs ≤ length p → take (at + length bs) (lay p at bs) ≡ take at p ++ bs
+unfolding lay
+lay-take p at [] l = let e : at + 0 ≡ at = omega arith in ap (λ (i : ℕ). take i p) e ∙ sym (append-nil (take at p))
+lay-take p at (b ∷ bs) l =
+    let k : length (set p at b) ≡ length p = length-set p at b in
+    let e : at + suc (length bs) ≡ (at + 1) + length bs = omega arith in
+    let j : at + 1 ≡ suc at = omega arith in
+    ap (λ (i : ℕ). take i (lay (set p at b) (at + 1) bs)) e
+    ∙ lay-take (set p at b) (at + 1) bs (omega arith)
+    ∙ ap (λ (i : ℕ). take i (set p at b) ++ bs) j
+    ∙ ap (λ (i : List ℕ). i ++ bs) (take-suc-set p at b (omega arith))
+    ∙ append-assoc (take at p) (b ∷ []) bs
 
 -- the bytes of a type as they are written: a name in two bytes
 unfoldable pub atomBytes : Atom → List ℕ

@@ -2,16 +2,22 @@
 --
 -- `chain`: two comparisons that succeed admit just the assignments that equate three references. `chain-fails`: where the second one fails, none does.
 -- `fixed-then`, `typed-then`: a reference that was told solved has one type in all of them, and that type is read with the same budget.
-use Prim.Native.Nat.{ℕ, _+_, _≤_, _<_}
+-- `power-made`, `power-admitted`: a list of operations that makes an unknown and its power ends at every budget, and then the second is the power of the first.
+use Prim.Native.Nat.{ℕ, suc, _+_, _≤_, _<_}
 use mathlib.Core.Path.{_≡_, refl, _∙_, ap, subst}
 use mathlib.Core.Logic.{_≢_, _↔_}
 use mathlib.Core.Bool.{Bool, true, false}
-use Rattle.meter.specs.Meter.{Out, done, Costs}
-use Rattle.types.specs.Ty.{Ty}
+use mathlib.Core.List.{List, [], _∷_}
+use native.Mathlib.Omega.{arith}
+use lib.ListN.{length}
+use Rattle.meter.specs.Meter.{Out, done, Costs, exact-done}
+use Rattle.types.specs.Ty.{Ty, pow}
 use Rattle.unification.specs.Arena.{Words, nodeAt, solved, read, Verdict, unified, unify}
 use Rattle.unification.specs.Good.{Assignment, Admits}
 use Rattle.unification.specs.Laws.{Reached, called, after, unify-success, unify-failure, unify-steps, solved-law, read-law}
 use Rattle.unification.specs.History.{after-done}
+use Rattle.unification.specs.Ops.{Op, make, Bench, exec, grow, Meets, Admitted, Ready, Judged, clean, hopeless, exec-exact}
+use Rattle.unification.specs.Exec.{exec-nil, exec-made, grow-count, grow-problems}
 
 -- a comparison that was answered is one more step of the history
 pub compared : {n : ℕ} {ws : Words} → Reached n ws → (a b β r : ℕ) (v : Verdict) (ws′ : Words) → unify n (ws, a, b) β ≡ done (v, ws′) r → Reached n ws′
@@ -37,3 +43,29 @@ module _ {n : ℕ} {ws : Words} (R : Reached n ws) (t : ℕ) (tl : t < n) (β r 
 
   pub typed-then : (T : Ty) × (read ws n t β ≡ done T r) × ((σ : Assignment) → Admits n (nodeAt ws n) σ → σ t ≡ T)
   typed-then = read-law R t tl β r e
+
+-- a list that listed nothing is met by all that is admitted after it
+met-after : (s : Bench) (os : List Op) (s′ : Bench) → s′ .problems ≡ s .problems → Judged s os s′ → (σ : Assignment) → Admitted s′ σ → Meets σ (s .count) os
+met-after s os s′ e (clean _ f) σ A = f σ A .1
+met-after s os s′ e (hopeless l f) σ A = let z = ap length e in absurd (omega arith)
+
+module _ (cap : ℕ) (s : Bench) (l : suc (s .count) < cap) where
+  abbrev pub unknown-power : List Op
+  unknown-power = make 0x4E 0 0 ∷ make 0x43 (s .count) 0 ∷ []
+
+  abbrev pub one : Bench
+  one = grow s 0x4E 0 0
+
+  abbrev pub two : Bench
+  two = grow one 0x43 (s .count) 0
+
+  pub power-made : (β : ℕ) → exec cap unknown-power s β ≡ done two β
+  power-made β =
+      let c = grow-count s 0x4E 0 0 in
+      exec-made cap s (make 0x43 (s .count) 0 ∷ []) 0x4E 0 0 (omega arith) β ∙ exec-made cap one [] 0x43 (s .count) 0 (omega arith) β ∙ exec-nil cap two β
+
+  pub power-admitted : Ready cap s → (σ : Assignment) → Admitted two σ → σ (suc (s .count)) ≡ pow (σ (s .count))
+  power-admitted r σ A =
+      let x = exec-exact cap unknown-power s r (tt, (omega arith, tt)) (omega arith) in
+      let j = exact-done x 0 two 0 (power-made 0) .judged in
+      met-after s unknown-power two (grow-problems one 0x43 (s .count) 0 ∙ grow-problems s 0x4E 0 0) j σ A .1 .0

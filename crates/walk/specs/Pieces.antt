@@ -10,7 +10,6 @@ use borrow.Author.Tests.{leb-true}
 use Rattle.types.specs.Ty.{bool, int, given, Ty, base, pow, prod}
 use Rattle.formula.specs.Environment.{Entry, lacks, holds, Env}
 use Rattle.formula.specs.Tree.{Spelling, spells, no-type, Decl, plain, typed, annotated, decls, slots, place}
-use Rattle.unification.specs.Arena.{decode}
 use Rattle.unification.specs.Trees.{and-left, and-right}
 use Rattle.unification.specs.Good.{Assignment}
 use Rattle.unification.specs.Ops.{make, nodes, Meets}
@@ -32,7 +31,7 @@ lift-row (pow t) n row = lift-row t n row
 lift-row (prod t u) n row = lift-row u _ _ ∙ lift-row t n row
 
 pub lift-met : (t : Ty) (σ : Assignment) (n : ℕ) (row : Row) → Meets σ n (lift t n row .ops) → σ (lift t n row .result) ≡ t
-unfolding lift atom node _>>=_ glue decode
+unfolding lift atom node _>>=_ glue
 lift-met (base bool) σ n row q = q .0
 lift-met (base int) σ n row q = q .0
 lift-met (base (given x)) σ n row q = q .0
@@ -57,7 +56,7 @@ module _ (σ : Assignment) (τ ρ : ℕ → Ty) where
 
 module _ (Γ : Env) (τ ρ : ℕ → Ty) where
   pub complete-lift : {k : ℕ} {C : Assignment → Type 0} (t : Ty) → Complete τ ρ k (lift t) C (λ σ x. σ x ≡ t)
-  unfolding lift atom decode
+  unfolding lift atom
   complete-lift (base bool) = complete-node τ ρ BOOLEAN 0 0 (base bool) (λ σ n c e. e)
   complete-lift (base int) = complete-node τ ρ INTEGER 0 0 (base int) (λ σ n c e. e)
   complete-lift (base (given x)) = complete-node τ ρ GIVEN x 0 (base (given x)) (λ σ n c e. e)
@@ -130,7 +129,7 @@ module _ (Γ : Env) (σ : Assignment) (τ ρ : ℕ → Ty) where
 
 module _ (Γ : Env) (τ ρ : ℕ → Ty) (agrees : (x : ℕ) (t : Ty) → Γ x ≡ holds t → ρ x ≡ t) where
   complete-env : {k : ℕ} {C : Assignment → Type 0} (x : ℕ) (e : Entry) → Γ x ≡ e → Complete τ ρ k (fromEnv e) C (λ σ r. σ r ≡ ρ x)
-  unfolding fromEnv decode
+  unfolding fromEnv
   complete-env x lacks h = complete-node τ ρ UNKNOWN 0 0 (ρ x) (λ σ n c e. tt)
   complete-env x (holds t) h = complete-map τ ρ (λ σ c. c) (λ σ r c e. e ∙ sym (agrees x t h)) (complete-lift Γ τ ρ t)
 
@@ -213,7 +212,7 @@ no-lacks t e = let z : _≡_ {A = ℕ} 0 1 = cc in omega arith
 
 module _ (Γ : Env) (σ : Assignment) (τ ρ : ℕ → Ty) where
   sound-noteOf : (e : Entry) (x p : ℕ) → Γ x ≡ e → Sound σ τ ρ (noteOf Γ e x p) (λ k u. Γ x ≡ lacks → ρ x ≡ pow (base (given x)))
-  unfolding noteOf decode
+  unfolding noteOf
   sound-noteOf (holds t) x p h = sound-map σ τ ρ (sound-done σ τ ρ tt) (λ k u _ g. absurd (no-lacks t (sym h ∙ g)))
   sound-noteOf lacks x p h = sound-map σ τ ρ
       (sound-bind σ τ ρ (tame-name Γ x p) (λ t. tame-bind (tame-node GIVEN x 0) (λ g. tame-bind (tame-node POWER g 0) (λ s. tame-same t s p))) (sound-name Γ σ τ ρ x p)
@@ -377,7 +376,7 @@ module _ (τ ρ : ℕ → Ty) where
 -- ---- the other way, for names and types
 module _ (Γ : Env) (τ ρ : ℕ → Ty) (agrees : (x : ℕ) (t : Ty) → Γ x ≡ holds t → ρ x ≡ t) where
   complete-noteOf : {k : ℕ} {C : Assignment → Type 0} (e : Entry) (x p : ℕ) → (e ≡ lacks → ρ x ≡ pow (base (given x))) → Complete τ ρ k (noteOf Γ e x p) C (λ σ u. Unit {0})
-  unfolding noteOf decode
+  unfolding noteOf
   complete-noteOf (holds t) x p h = complete-done τ ρ tt (λ σ c. tt)
   complete-noteOf lacks x p h =
       complete-bind τ ρ (tame-name Γ x p) (complete-name Γ τ ρ agrees x p)
@@ -422,7 +421,7 @@ module _ (Γ : Env) (τ ρ : ℕ → Ty) (agrees : (x : ℕ) (t : Ty) → Γ x �
   complete-counted (x ∷ xs) (u ∷ Δ) (suc i) p t w h = complete-counted xs Δ i p t w (λ σ c. h σ c .1)
 
   pub complete-declare : {k : ℕ} {C : Assignment → Type 0} (ds : List Decl) → DeclRules Γ τ ρ ds k → Complete τ ρ k (declare Γ ds) C (λ σ xs. Declared τ σ ds k xs)
-  unfolding declare decode
+  unfolding declare
   complete-declare [] w = complete-done τ ρ [] (λ σ c. tt)
   complete-declare {k = k} (d ∷ ds) w =
       complete-bind τ ρ {Γ = Γ} (tame-enter (tame-own (at-decl Γ d) (tame-node UNKNOWN 0 0))) (complete-enter τ ρ (complete-own τ ρ (at-decl Γ d) (complete-node τ ρ UNKNOWN 0 0 (τ k) (λ σ n c e. tt))))

@@ -131,7 +131,7 @@ safe-enrol {b = b} x p r h = record { safe = λ n l row i. (tt, λ z s e. go n l
     go n l row i z s (here e d) = omega arith
 
 pub safe-lift : {b : ℕ} (t : Ty) → Safe b (lift t) Below
-unfolding lift atom decode
+unfolding lift atom
 safe-lift (base bool) = safe-node BOOLEAN 0 0 (λ n l. tt)
 safe-lift (base int) = safe-node INTEGER 0 0 (λ n l. tt)
 safe-lift (base (given x)) = safe-node GIVEN x 0 (λ n l. tt)
@@ -139,7 +139,7 @@ safe-lift (pow t) = safe-bind (safe-lift t) (λ x c l q. safe-node POWER x 0 (λ
 safe-lift (prod t u) = safe-bind (safe-lift t) (λ x c l q. safe-bind (safe-lift u) (λ y d k w. safe-node PRODUCT x y (λ n j. (omega arith, omega arith))))
 
 safe-env : {b : ℕ} (e : Entry) → Safe b (fromEnv e) Below
-unfolding fromEnv decode
+unfolding fromEnv
 safe-env lacks = safe-node UNKNOWN 0 0 (λ n l. tt)
 safe-env (holds t) = safe-lift t
 
@@ -151,7 +151,7 @@ module _ (k b : ℕ) (args places : ℕ → ℕ) (inside : (i : ℕ) → leb 1 i
   ref-in n m l (new j) e = let q = ltb-true j m e in omega arith
 
   play-in : (is : List Item) (n m c : ℕ) → b ≤ n → c ≡ n + m → scoped k m is ≡ true → Sound c (play args places n is)
-  unfolding play scoped decode
+  unfolding play scoped
   play-in [] n m c l e s = tt
   play-in (an-unknown ∷ is) n m c l e s = (tt, play-in is n (suc m) (suc c) l (omega arith) s)
   play-in (a-bool ∷ is) n m c l e s = (tt, play-in is n (suc m) (suc c) l (omega arith) s)
@@ -215,24 +215,20 @@ last-in n (each x) h l = h
 last-in n (links way x) h l = h
 
 safe-relation : {b : ℕ} (way : Way) (s t : ℕ) → s < b → t < b → Safe b (relation way s t) Below
-unfolding relation decode
+unfolding relation
 safe-relation forward s t h g = safe-bind (safe-node PRODUCT s t (λ n l. (omega arith, omega arith))) (λ x c l q. safe-node POWER x 0 (λ n k. omega arith))
 safe-relation backward s t h g = safe-bind (safe-node PRODUCT t s (λ n l. (omega arith, omega arith))) (λ x c l q. safe-node POWER x 0 (λ n k. omega arith))
 
 safe-fresh : {b : ℕ} → Safe b (unknown) Below
-unfolding decode
 safe-fresh = safe-node UNKNOWN 0 0 (λ n l. tt)
 
 safe-power : {b : ℕ} (x : ℕ) → x < b → Safe b (power x) Below
-unfolding decode
 safe-power x h = safe-node POWER x 0 (λ n l. omega arith)
 
 safe-int : {b : ℕ} → Safe b (integer) Below
-unfolding decode
 safe-int = safe-node INTEGER 0 0 (λ n l. tt)
 
 safe-bool : {b : ℕ} → Safe b (boolean) Below
-unfolding decode
 safe-bool = safe-node BOOLEAN 0 0 (λ n l. tt)
 
 mode-up : (b n : ℕ) (m : Mode) → b ≤ n → ModeIn b m → ModeIn n m
@@ -265,7 +261,7 @@ module _ (Γ : Env) where
       go n l row r absent e = safe-bind {b = b} (safe-env (Γ x)) (λ s c k q. safe-enrol x p s q) .safe n l row r
 
   safe-noteOf : {b : ℕ} (e : Entry) (x p : ℕ) → Safe b (noteOf Γ e x p) Nothing
-  unfolding noteOf decode
+  unfolding noteOf
   safe-noteOf (holds t) x p = safe-done tt (λ n l. tt)
   safe-noteOf lacks x p = safe-bind (safe-name x p) (λ t c l q. safe-bind (safe-node GIVEN x 0 (λ n k. tt)) (λ g d k w. safe-bind (safe-power g w) (λ s f j v. safe-same t s p (omega arith) v)))
 
@@ -371,7 +367,7 @@ module _ (Γ : Env) where
   safe-pairs (t ∷ ts) = safe-bind (safe-target (t .0)) (λ x c l q. safe-bind (safe-walk (t .1) c [] tt) (λ y d k w. safe-bind (safe-same y x (place (t .1)) w (omega arith)) (λ _ f j v. safe-pairs ts)))
 
   safe-products : {b : ℕ} (ts : List Target) (x : ℕ) → x < b → Safe b (products Γ ts x) Below
-  unfolding products decode
+  unfolding products
   safe-products [] x h = safe-done x (λ n l. omega arith)
   safe-products (t ∷ ts) x h = safe-bind (safe-target t) (λ y c l q. safe-bind (safe-node PRODUCT x y (λ n k. (omega arith, omega arith))) (λ z d k w. safe-products ts z w))
 

@@ -11,7 +11,6 @@ use lib.ListN.{length}
 use borrow.Author.Tests.{eqb-true, eq-eqb, ne-eqb, ltb-true}
 use Rattle.types.specs.Ty.{bool, int, Ty, base, pow, prod}
 use Rattle.formula.specs.Environment.{holds}
-use Rattle.unification.specs.Arena.{decode}
 use Rattle.unification.specs.Trees.{and-left, and-right}
 use Rattle.unification.specs.Good.{Assignment}
 use Rattle.unification.specs.Ops.{nodes, Meets}
@@ -229,7 +228,7 @@ module _ (σ : Assignment) (ν xs : ℕ → Ty) (args places : ℕ → ℕ) (n k
   -- letters stand for the script's unknowns: what the operations ask is what the rule says
   module _ (own : (j : ℕ) → ν j ≡ σ (n + j)) where
     pub played : (is : List Item) (acc : ℕ → Form) (m c : ℕ) → c ≡ n + m → scoped k m is ≡ true → Known acc m → Meets σ c (play args places n is) → Hold ν xs (equations acc m is) × Known (locals acc m is) (made m is)
-    unfolding play equations locals made scoped read decode
+    unfolding play equations locals made scoped read
     played [] acc m c e s h q = (tt, h)
     played (an-unknown ∷ is) acc m c e s h q = played is (put acc m (letter m)) (suc m) (suc c) (omega arith) s (put-known acc m (letter m) h (sym (own m))) (q .1)
     played (a-bool ∷ is) acc m c e s h q = played is (put acc m BOOL) (suc m) (suc c) (omega arith) s (put-known acc m BOOL h (here c m e _ (q .0))) (q .1)
@@ -275,7 +274,7 @@ values-length ν xs args places n (equal x y w ∷ is) acc m = values-length ν 
 module _ (σ : Assignment) (ν xs : ℕ → Ty) (args places : ℕ → ℕ) (n k : ℕ) (parts-read : (i : ℕ) → leb 1 i && leb i k ≡ true → σ (args i) ≡ xs i) where
   pub plays : (is : List Item) (acc : ℕ → Form) (m c : ℕ) → c ≡ n + m → scoped k m is ≡ true → ((j : ℕ) → j < m → σ (n + j) ≡ read ν xs (acc j)) → Hold ν xs (equations acc m is) → Carries σ c (values ν xs acc m is)
       → Meets σ c (play args places n is) × ((j : ℕ) → j < made m is → σ (n + j) ≡ read ν xs (locals acc m is j))
-  unfolding play equations locals made scoped read decode values
+  unfolding play equations locals made scoped read values
   plays [] acc m c e s h q v = (tt, h)
   plays (an-unknown ∷ is) acc m c e s h q v =
       let p = plays is (put acc m (letter m)) (suc m) (suc c) (omega arith) s (put-known σ ν xs args places n k parts-read acc m (letter m) h (here σ ν xs args places n k parts-read c m e _ (v .0))) q (v .1) in

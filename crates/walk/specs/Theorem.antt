@@ -9,7 +9,6 @@ use lib.ListN.{length}
 use Rattle.types.specs.Ty.{Ty, pow, prod}
 use Rattle.formula.specs.Environment.{holds, Env}
 use Rattle.formula.specs.Tree.{Expr, free, bound, literal, atomic, extension, truth, binary, associative, unary, quantified, ascribed, explicit, Exprs, none, more, Pred, constant, variable, relational, connective, junction, negation, quantification, simple, multiple, application, Preds, end, also, decls, slots, slots-all, slots-pred, slots-preds, place}
-use Rattle.unification.specs.Arena.{decode}
 use Rattle.unification.specs.Trees.{and-left, and-right}
 use Rattle.unification.specs.Good.{Assignment}
 use Rattle.typing.specs.Equations.{Form, _≐_, a, c, d, T, R, C, Rule, read, Hold, Obeys, parts, Way, forward, backward, Many, no-rule, Every, relates, Chain, Suits, firstOf, look, never-typed, never-typed-obeyed}
@@ -117,7 +116,7 @@ module _ (Γ : Env) (σ : Assignment) (τ ρ : ℕ → Ty) where
   sound-expr p g = sound-enter σ τ ρ (sound-own σ τ ρ p g)
 
   sound-relation : (way : Way) (s t : ℕ) → Sound σ τ ρ (relation way s t) (λ k x. σ x ≡ relates way (σ s) (σ t))
-  unfolding relation relates decode
+  unfolding relation relates
   sound-relation forward s t = sound-map σ τ ρ (sound-bind σ τ ρ {Γ = Γ} (tame-node PRODUCT s t) (λ x. tame-node POWER x 0) (sound-node σ τ ρ PRODUCT s t) (λ x. sound-node σ τ ρ POWER x 0)) (λ k y q. q .2 ∙ ap pow (q .1))
   sound-relation backward s t = sound-map σ τ ρ (sound-bind σ τ ρ {Γ = Γ} (tame-node PRODUCT t s) (λ x. tame-node POWER x 0) (sound-node σ τ ρ PRODUCT t s) (λ x. sound-node σ τ ρ POWER x 0)) (λ k y q. q .2 ∙ ap pow (q .1))
 
@@ -196,7 +195,7 @@ module _ (Γ : Env) (σ : Assignment) (τ ρ : ℕ → Ty) where
       )))
 
   mutual
-    unfolding walk Typed types slots decode read parts extension-rule
+    unfolding walk Typed types slots read parts extension-rule
 
     pub sound-walk : (e : Expr) (B : List ℕ) → Sound σ τ ρ (walk Γ e B) (λ k x. Fine e B k × (σ x ≡ τ k))
     sound-walk (free p x) B = sound-map σ τ ρ (sound-expr p (sound-name Γ σ τ ρ x p)) (λ k y q. (λ Δ s. sym (q .1) ∙ q .0, q .1))
@@ -314,7 +313,7 @@ module _ (Γ : Env) (τ ρ : ℕ → Ty) (agrees : (x : ℕ) (t : Ty) → Γ x �
   complete-expr p g = complete-enter τ ρ (complete-own τ ρ p g)
 
   complete-relation : {k : ℕ} {C : Assignment → Type 0} (way : Way) (s t : ℕ) (u v : Ty) → ((σ : Assignment) → C σ → σ s ≡ u) → ((σ : Assignment) → C σ → σ t ≡ v) → Complete τ ρ k (relation way s t) C (λ σ x. σ x ≡ relates way u v)
-  unfolding relation relates decode
+  unfolding relation relates
   complete-relation forward s t u v h g = complete-bind τ ρ {Γ = Γ} (tame-node PRODUCT s t) (complete-node τ ρ PRODUCT s t (prod u v) (λ σ n c e. e ∙ ap₂ prod (sym (h σ c)) (sym (g σ c)))) (λ x. complete-node τ ρ POWER x 0 (pow (prod u v)) (λ σ n c e. e ∙ ap pow (sym (c .1))))
   complete-relation backward s t u v h g = complete-bind τ ρ {Γ = Γ} (tame-node PRODUCT t s) (complete-node τ ρ PRODUCT t s (prod v u) (λ σ n c e. e ∙ ap₂ prod (sym (g σ c)) (sym (h σ c)))) (λ x. complete-node τ ρ POWER x 0 (pow (prod v u)) (λ σ n c e. e ∙ ap pow (sym (c .1))))
 
@@ -327,7 +326,7 @@ module _ (Γ : Env) (τ ρ : ℕ → Ty) (agrees : (x : ℕ) (t : Ty) → Γ x �
       → ((D : Assignment → Type 0) (x : ℕ) (u : Ty) → ((σ : Assignment) → D σ → C σ) → Every u us → ((σ : Assignment) → D σ → σ x ≡ u) → Complete τ ρ (k + 0) (rest (each x)) D (λ σ m. Unit {0}))
       → ((D : Assignment → Type 0) (way : Way) (s : ℕ) (u v : Ty) → ((σ : Assignment) → D σ → C σ) → Chain way u us v → ((σ : Assignment) → D σ → σ s ≡ u) → Complete τ ρ (k + 0) (rest (links way s)) D (λ σ m. σ (last m) ≡ v))
       → Complete τ ρ k (gather g rest) C (λ σ x. σ x ≡ t)
-  unfolding gather manyOf gathers ruleOf parts read decode
+  unfolding gather manyOf gathers ruleOf parts read
   complete-gather (all-as s) r rest us t k C ok e u w all lk =
       let v = subst (λ (r : Many). Suits r us t) (sym e) w in
       let quiet : claims (s .items) ≡ [] = silent-nil (claims (s .items)) (and-right (fits 0 s) (silent (claims (s .items))) ok) in
@@ -357,7 +356,7 @@ module _ (Γ : Env) (τ ρ : ℕ → Ty) (agrees : (x : ℕ) (t : Ty) → Γ x �
       → ((D : Assignment → Type 0) → ((σ : Assignment) → D σ → C σ) → Complete τ ρ (k + 0 + 0) child D (λ σ x. σ x ≡ τ (k + 0 + 0))) → τ k ≡ relates way u v → ((σ : Assignment) → C σ → σ s ≡ u)
       → ((D : Assignment → Type 0) (x : ℕ) → ((σ : Assignment) → D σ → C σ) → ((σ : Assignment) → D σ → σ x ≡ v) → Complete τ ρ (k + 0 + 0 + c + 0) (rest (links way x)) D (λ σ m. σ (last m) ≡ t))
       → Complete τ ρ k (stepped (links way s) child p rest) C (λ σ m. σ (last m) ≡ t)
-  unfolding stepped decode
+  unfolding stepped
   step-links-met child p way s u v t k rest C tm w e g r =
       let z : k + 0 + 0 ≡ k = omega arith in
       complete-bind τ ρ {Γ = Γ} (tame-node UNKNOWN 0 0) (complete-node τ ρ UNKNOWN 0 0 v (λ σ n c e. tt))
@@ -367,7 +366,7 @@ module _ (Γ : Env) (τ ρ : ℕ → Ty) (agrees : (x : ℕ) (t : Ty) → Γ x �
       (λ _. r _ x (λ σ c. c .0 .0 .0 .0) (λ σ c. c .0 .0 .0 .1)))))
 
   mutual
-    unfolding walk Typed types slots decode read parts extension-rule
+    unfolding walk Typed types slots read parts extension-rule
 
     pub complete-walk : (e : Expr) (C : Assignment → Type 0) (B : List ℕ) (Δ : List Ty) (k : ℕ) → Typed Γ τ ρ e Δ k → ((σ : Assignment) → C σ → Seen σ B Δ) → Complete τ ρ k (walk Γ e B) C (λ σ x. σ x ≡ τ k)
     complete-walk (free p x) C B Δ k w h = complete-expr p (complete-map τ ρ (λ σ c. c) (λ σ y c e. e ∙ sym w) (complete-name Γ τ ρ agrees {C = C} x p))

@@ -10,7 +10,6 @@ use lib.ListN.{length, getD}
 use Rattle.types.specs.Ty.{bool, Ty, base, pow, prod}
 use Rattle.formula.specs.Environment.{Entry, lacks, holds, Env}
 use Rattle.formula.specs.Tree.{Decl, Expr, Target, Formula, expression, predicate, becomes, becomes-in, becomes-such, decls, targets, slots, slots-pairs, slots-of, place}
-use Rattle.unification.specs.Arena.{decode}
 use Rattle.unification.specs.Good.{Assignment}
 use Rattle.unification.specs.Ops.{Meets}
 use Rattle.typing.specs.Equations.{a, c, d, C, read}
@@ -99,7 +98,7 @@ module _ (Γ : Env) (σ : Assignment) (τ ρ : ℕ → Ty) where
       (q .1 .0, subst (λ (i : ℕ). Typed Γ τ ρ (t .1) [] i) z (q .2 .1 .0 [] tt), ap τ (sym z) ∙ sym (q .2 .1 .1) ∙ q .2 .2 .1 ∙ q .1 .1, subst (λ (i : ℕ). TypedPairs Γ τ ρ ts i) z2 (q .2 .2 .2))))
 
   sound-products : (ts : List Target) (x : ℕ) → Sound σ τ ρ (products Γ ts x) (λ k y. TypedTargets Γ τ ρ ts k × ((u : Ty) → σ x ≡ u → σ y ≡ product Γ τ ρ u ts k))
-  unfolding products product decode
+  unfolding products product
   sound-products [] x = sound-map σ τ ρ (sound-done σ τ ρ x) (λ k y q. (tt, λ u e. ap σ q ∙ e))
   sound-products (t ∷ ts) x = sound-map σ τ ρ
       (sound-bind σ τ ρ (tame-target Γ t) (λ y. tame-bind (tame-node PRODUCT x y) (λ z. tame-products Γ ts z)) (sound-target t)
@@ -131,7 +130,7 @@ module _ (Γ : Env) (σ : Assignment) (τ ρ : ℕ → Ty) where
 
   -- the slots start at 0
   pub sound-formula : (f : Formula) → Sound σ τ ρ (walk-formula Γ f) (λ k u. k ≡ 0 → TypedFormula Γ τ ρ f)
-  unfolding walk-formula forget decode
+  unfolding walk-formula forget
   sound-formula (expression e) = sound-map σ τ ρ (sound-bind σ τ ρ (tame-walk Γ e []) (λ _. tame-done tt) (sound-walk Γ σ τ ρ e []) (λ _. any-end))
       (λ k u q z. subst (λ (i : ℕ). Typed Γ τ ρ e [] i) z (q .1 .0 [] tt))
   sound-formula (predicate c) = sound-map σ τ ρ (sound-pred Γ σ τ ρ c []) (λ k u q z. subst (λ (i : ℕ). TypedPred Γ τ ρ c [] i) z (q [] tt))
@@ -175,7 +174,7 @@ module _ (Γ : Env) (τ ρ : ℕ → Ty) (agrees : Agrees Γ ρ) where
       (λ _. complete-pairs ts _ (k + 1 + slots (t .1) + 0) (subst (λ (i : ℕ). TypedPairs Γ τ ρ ts i) z2 (w .3)))))
 
   complete-products : (ts : List Target) (x : ℕ) (u : Ty) (C : Assignment → Type 0) (k : ℕ) → TypedTargets Γ τ ρ ts k → ((σ : Assignment) → C σ → σ x ≡ u) → Complete τ ρ k (products Γ ts x) C (λ σ y. σ y ≡ product Γ τ ρ u ts k)
-  unfolding products product decode
+  unfolding products product
   complete-products [] x u C k w h = complete-done τ ρ x h
   complete-products (t ∷ ts) x u C k w h = let z : suc k ≡ k + 1 + 0 = omega arith in
       complete-bind τ ρ (tame-target Γ t) (complete-target t (w .0))
@@ -200,7 +199,7 @@ module _ (Γ : Env) (τ ρ : ℕ → Ty) (agrees : Agrees Γ ρ) where
   Any σ = Unit {0}
 
   pub complete-formula : (f : Formula) → TypedFormula Γ τ ρ f → Complete τ ρ 0 (walk-formula Γ f) Any (λ σ u. Unit {0})
-  unfolding walk-formula forget decode
+  unfolding walk-formula forget
   complete-formula (expression e) w = complete-bind τ ρ (tame-walk Γ e []) (complete-walk Γ τ ρ agrees e Any [] [] 0 w (λ σ c. tt)) (λ _. complete-done τ ρ tt (λ σ c. tt))
   complete-formula (predicate q) w = complete-pred Γ τ ρ agrees q Any [] [] 0 w (λ σ c. tt)
   complete-formula (becomes p ts) w = complete-enter τ ρ (complete-pairs ts Any 0 w)

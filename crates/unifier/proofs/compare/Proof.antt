@@ -5,7 +5,7 @@ use native.Mathlib.Omega.{arith}
 use Rattle.unification.specs.Kinds.{no-seventh}
 use borrow.Author.Tests.{eq-eqb, ne-eqb}
 use mathlib.Core.Path.{sym, ap, _∙_}
-use Rattle.unification.specs.Arena.{decode, meet, sameAtom, verdictOf}
+use Rattle.unification.specs.Arena.{meet, sameAtom, verdictOf}
 use Rattle.unification.specs.Kinds.{meet-right, meet-differ, meet-plain}
 use Rattle.unification.specs.Tasks.{taskOf}
 use Rattle.unifier.specs.Answers.{nodeOf, taken}
@@ -16,7 +16,7 @@ use Rattle.unifier.proofs.compare.Lts as lts
 
 -- src/lib.rt:267:9
 returns : tie.Need-returns
-unfolding taken taskOf meet nodeOf decode sameAtom verdictOf
+unfolding taken taskOf meet nodeOf sameAtom verdictOf
 returns c = rw (c .if1 .taken)
 
 -- src/lib.rt:270:9
@@ -31,22 +31,22 @@ returns-3 c = rw (meet-differ _ _ _ _ _ _ (c .before .before .before .before .be
 
 -- src/lib.rt:262:1
 returns-4 : tie.Need-returns-4
-unfolding taken taskOf meet nodeOf decode sameAtom verdictOf
+unfolding taken taskOf meet nodeOf sameAtom verdictOf
 returns-4 c = rw (sym (c .before .before .before .before .if3 .left), c .before .before .before .match .keys1, eq-eqb _ _ (c .if4 .taken))
 
 -- src/lib.rt:262:1
 returns-5 : tie.Need-returns-5
-unfolding taken taskOf meet nodeOf decode sameAtom verdictOf
+unfolding taken taskOf meet nodeOf sameAtom verdictOf
 returns-5 c = rw (sym (c .before .before .before .before .if3 .left), c .before .before .before .match .keys1, ne-eqb _ _ (c .if4 .left))
 
 -- src/lib.rt:262:1
 returns-6 : tie.Need-returns-6
-unfolding taken taskOf meet nodeOf decode sameAtom verdictOf
+unfolding taken taskOf meet nodeOf sameAtom verdictOf
 returns-6 c = rw (sym (c .before .if3 .left), c .match .keys2)
 
 -- src/lib.rt:262:1
 returns-7 : tie.Need-returns-7
-unfolding taken taskOf meet nodeOf decode sameAtom verdictOf
+unfolding taken taskOf meet nodeOf sameAtom verdictOf
 returns-7 c = rw (sym (c .before .if3 .left), c .match .keys3)
 
 -- src/lib.rt:262:1

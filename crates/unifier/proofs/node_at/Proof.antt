@@ -3,7 +3,7 @@ use Rattle.unification.specs.Kinds.{node-here, root-range, bad-below, bad-above
 use borrow.Author.Tests.{lt-ltb, le-ltb}
 use mathlib.Core.Path.{sym, ap, _∙_}
 use native.Mathlib.Omega.{arith}
-use Rattle.unification.specs.Arena.{nodeAt, inside, decode}
+use Rattle.unification.specs.Arena.{nodeAt, inside}
 use Rattle.unification.specs.Kinds.{root-range, bad-below, bad-above}
 use Rattle.unifier.specs.Answers.{nodeOf, foundOf}
 use borrow.Author.Needs.{needs}
@@ -80,12 +80,12 @@ shared-slice-read-t25 c = search needs
 
 -- src/lib.rt:75:1
 returns-3 : tie.Need-returns-3
-unfolding foundOf decode
+unfolding foundOf
 returns-3 c = (sym (node-here _ _ _ (c .before .before .before .before .if1 .left) (c .before .before .before .if2 .left) ∙ rw (c .match .keys1) refl), tt)
 
 -- src/lib.rt:75:1
 returns-4 : tie.Need-returns-4
-unfolding foundOf nodeOf decode
+unfolding foundOf nodeOf
 returns-4 c = (sym (node-here _ _ _ (c .before .before .before .before .before .if1 .left) (c .before .before .before .before .if2 .left)), rw (c .before .match .keys2) tt)
 
 -- src/lib.rt:75:1
