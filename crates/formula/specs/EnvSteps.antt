@@ -6,8 +6,8 @@ use native.Mathlib.Decide.{ℕ-discrete}
 use mathlib.Core.Path.{_≡_, refl, sym, ap, _∙_, subst}
 use mathlib.Core.Bool.{Bool, true, false}
 use mathlib.Core.List.{List, [], _∷_, _++_}
-use lib.ListN.{length, getD, set, take, drop, replicate, length-set, length-drop, length-append, getD-replicate}
-use lib.Seq.{take-all, getD-set-same, getD-set-other}
+use lib.ListN.{length, getD, set, drop, replicate, length-set, length-drop, length-append, getD-replicate}
+use lib.Seq.{getD-set-same, getD-set-other}
 use lib.Dec.{ltb, eqb}
 use borrow.Author.Tests.{eq-eqb, ne-eqb, eqb-true, eqb-false, lt-ltb, le-ltb, ltb-true, ltb-false}
 use Rattle.types.specs.declared.Place.{Place}
@@ -23,7 +23,6 @@ use Rattle.formula.specs.declared.Word.{Word}
 use Rattle.formula.specs.declared.Word.the-variants as W
 use Rattle.formula.specs.declared.Fault.{Fault}
 use Rattle.formula.specs.declared.Fault.the-variants.{Malformed, Beyond}
-use Rattle.formula.specs.declared.Form.{Form}
 use Rattle.formula.specs.declared.Form.the-variants.{Good, TooLong, Bad}
 use Rattle.formula.specs.declared.Entered.{Entered}
 use Rattle.formula.specs.declared.Entered.the-variants.{Wrong, Typed}

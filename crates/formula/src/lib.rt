@@ -9,7 +9,7 @@ ghost use lib.Dec.{leb};
 ghost use Rattle.types.specs.Record.{typeAt};
 ghost use Rattle.types.specs.Code.{endOf};
 ghost use Rattle.formula.specs.Limits.{max-bytes, max-names};
-ghost use Rattle.formula.specs.Heads.{byteAt, wordAt, nameAt, opAt, countAt, fewAt, exprBody, exprHead, predBody, predHead, declBody, declHead, targetAt};
+ghost use Rattle.formula.specs.Heads.{byteAt, wordAt, nameAt, opAt, countAt, fewAt, exprBody, exprHead, predBody, predHead, predEnd, declBody, declHead, targetAt};
 ghost use Rattle.formula.specs.Reader.{ownOf, declareOf, closedOf, moved, typeIn, spellingIn, forget, after};
 ghost use Rattle.formula.specs.Parse.{declAt, declsAt, exprAt, exprsAt, predAt, predsAt, targetIn, targetsAt, pairIn, pairsAt, becomesAt, formulaAt, parseOf, formOf};
 ghost use Rattle.formula.specs.EnvParse.{entryAt, entriesFrom, capped, environmentOf};
@@ -328,6 +328,24 @@ fn pred_head(s: &[u8], at: Place) -> PredAt
     }
 }
 
+// The place after a predicate's head.
+fn pred_end(h: PredHead) -> Place
+    ensures { λ r. ⌜ r ≡ predEnd h ⌝ }
+{
+    match h {
+        PredHead::Constant(e) => e,
+        PredHead::Variable(e) => e,
+        PredHead::Relational(_, e) => e,
+        PredHead::Connective(e) => e,
+        PredHead::Junction(_, e) => e,
+        PredHead::Negation(e) => e,
+        PredHead::Quantification(_, e) => e,
+        PredHead::Simple(e) => e,
+        PredHead::Multiple(_, e) => e,
+        PredHead::Application(_, e) => e,
+    }
+}
+
 fn decl_body(k: u8, p: Place) -> DeclAt
     ensures { λ r. ⌜ r ≡ declBody k p ⌝ }
 {
@@ -604,50 +622,27 @@ fn read_pred(s: &[u8], names: u32, left: u32, o: Out) -> Out
                         return Out::Stop(Fault::Beyond(at));
                     }
                     let l = left - 1;
+                    let begin = Out::Next(moved_to(pred_end(h), st));
                     match h {
-                        PredHead::Constant(e) => Out::Next(moved_to(e, st)),
-                        PredHead::Variable(e) => Out::Next(moved_to(e, st)),
-                        PredHead::Relational(_, e) => {
-                            let a = read_expr(s, names, false, l, Out::Next(moved_to(e, st)));
+                        PredHead::Constant(_) => begin,
+                        PredHead::Variable(_) => begin,
+                        PredHead::Relational(_, _) => {
+                            let a = read_expr(s, names, false, l, begin);
                             read_expr(s, names, false, l, a)
                         }
-                        PredHead::Connective(e) => {
-                            let a = read_pred(s, names, l, Out::Next(moved_to(e, st)));
+                        PredHead::Connective(_) => {
+                            let a = read_pred(s, names, l, begin);
                             read_pred(s, names, l, a)
                         }
-                        PredHead::Junction(n, e) => read_preds(
-                            s,
-                            names,
-                            l,
-                            n,
-                            Out::Next(moved_to(e, st)),
-                        ),
-                        PredHead::Negation(e) => read_pred(s, names, l, Out::Next(moved_to(e, st))),
-                        PredHead::Quantification(n, e) => {
-                            let ds = read_decls(s, names, l, n, Out::Next(moved_to(e, st)));
+                        PredHead::Junction(n, _) => read_preds(s, names, l, n, begin),
+                        PredHead::Negation(_) => read_pred(s, names, l, begin),
+                        PredHead::Quantification(n, _) => {
+                            let ds = read_decls(s, names, l, n, begin);
                             close(st.opened, read_pred(s, names, l, ds))
                         }
-                        PredHead::Simple(e) => read_expr(
-                            s,
-                            names,
-                            false,
-                            l,
-                            Out::Next(moved_to(e, st)),
-                        ),
-                        PredHead::Multiple(n, e) => read_exprs(
-                            s,
-                            names,
-                            l,
-                            n,
-                            Out::Next(moved_to(e, st)),
-                        ),
-                        PredHead::Application(n, e) => read_exprs(
-                            s,
-                            names,
-                            l,
-                            n,
-                            Out::Next(moved_to(e, st)),
-                        ),
+                        PredHead::Simple(_) => read_expr(s, names, false, l, begin),
+                        PredHead::Multiple(n, _) => read_exprs(s, names, l, n, begin),
+                        PredHead::Application(n, _) => read_exprs(s, names, l, n, begin),
                     }
                 }
             }
