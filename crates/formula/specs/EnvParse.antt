@@ -5,7 +5,7 @@ use Prim.Native.Nat.{ℕ, zero, suc, _+_, _<_, min}
 use mathlib.Core.Path.{_≡_}
 use mathlib.Core.Bool.{Bool, true, false}
 use mathlib.Core.List.{List, [], _∷_, _++_}
-use lib.ListN.{length, getD}
+use lib.ListN.{length, getD, set}
 use lib.Dec.{ltb, eqb}
 use Rattle.types.specs.declared.Place.{Place}
 use Rattle.types.specs.Ty.{Ty}
@@ -14,7 +14,7 @@ use Rattle.formula.specs.declared.Word.{Word}
 use Rattle.formula.specs.declared.Word.the-variants as W
 use Rattle.formula.specs.declared.Fault.{Fault}
 use Rattle.formula.specs.declared.Fault.the-variants.{Malformed, Beyond}
-use Rattle.formula.specs.Environment.{Entry, lacks, holds, Entries, lookup}
+use Rattle.formula.specs.Environment.{Entry, lacks, holds, Entries, lookup, spellEntry}
 use Rattle.formula.specs.Heads.{pick, place, byteAt, onByte, nameAt}
 use Rattle.formula.specs.Parse.{Parsed, parsed, too-long, faulty}
 use Rattle.types.specs.Limits.{max-bytes, max-depth, max-names}
@@ -51,6 +51,11 @@ unfoldable pub environmentOf : ℕ → List ℕ → Parsed Entries
 environmentOf names s = pick (ltb max-bytes (length s)) too-long (entriesFrom (length s) (capped names) s [] 0)
 
 -- ---- the table of places
+
+-- the cells with the entries es put in, the first of which begins at p: at each name one more than the place of its type
+unfoldable pub placesFrom : ℕ → Entries → List ℕ → List ℕ
+placesFrom p [] cells = cells
+placesFrom p (e ∷ es) cells = placesFrom (p + length (spellEntry e)) es (set cells (e .0) (p + 4))
 
 -- a cell: 0 where the environment lacks the name, else one more than the place of its type
 unfoldable pub Cell : ℕ → List ℕ → Entry → ℕ → Type 0

@@ -1,12 +1,23 @@
--- What `check_environment` promises: the form of the stream, and of an accepted one the table of places.
+-- What `check_environment` answers: the form of the stream, and the table of places.
+-- The table of a stream that is no environment is empty: 256 zeros.
 use Prim.Native.Nat.{ℕ}
-use mathlib.Core.Path.{_≡_}
 use mathlib.Core.List.{List}
+use lib.ListN.{replicate}
+use Rattle.formula.specs.declared.Form.{Form}
+use Rattle.formula.specs.declared.Form.the-variants.{Good, TooLong, Bad}
 use Rattle.formula.specs.declared.Environment.{Environment}
 use Rattle.formula.specs.Environment.{Entries}
-use Rattle.formula.specs.Parse.{parsed, formOf}
-use Rattle.formula.specs.EnvParse.{capped, environmentOf, Table}
+use Rattle.formula.specs.Parse.{Parsed, parsed, too-long, faulty}
+use Rattle.formula.specs.EnvParse.{placesFrom}
+use Rattle.formula.specs.Limits.{max-names}
 
-pub record Told (names : ℕ) (s : List ℕ) (r : Environment) : Type 0 where
-  pub form : r .form ≡ formOf (environmentOf names s)
-  pub table : (es : Entries) → environmentOf names s ≡ parsed es → Table (capped names) s es (r .types)
+abbrev pub empty : List ℕ
+empty = replicate max-names 0
+
+unfoldable pub blank : Form → Environment
+blank form = record { form = form; types = empty }
+
+unfoldable pub answerOf : Parsed Entries → Environment
+answerOf (parsed es) = record { form = Good; types = placesFrom 0 es empty }
+answerOf too-long = blank TooLong
+answerOf (faulty f) = blank (Bad f)

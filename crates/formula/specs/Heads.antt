@@ -109,6 +109,19 @@ predBody s k p =
 unfoldable pub predHead : List ℕ → Place → PredAt
 predHead s p = onByte P.Wrong (byteAt s p) (predBody s)
 
+-- the place after a predicate's head
+unfoldable pub predEnd : PredHead → Place
+predEnd (Constant e) = e
+predEnd (Variable e) = e
+predEnd (Relational o e) = e
+predEnd (Connective e) = e
+predEnd (Junction n e) = e
+predEnd (Negation e) = e
+predEnd (Quantification n e) = e
+predEnd (Simple e) = e
+predEnd (Multiple n e) = e
+predEnd (Application n e) = e
+
 unfoldable pub declBody : ℕ → Place → DeclAt
 declBody k p = pick (eqb k 0x10) (D.Is (Plain p)) (pick (eqb k 0x11) (D.Is (Typed p)) (pick (eqb k 0x12) (D.Is (Annotated p)) D.Wrong))
 

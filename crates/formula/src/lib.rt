@@ -3,16 +3,18 @@
 ghost use mathlib.Core.Path.{_≡_};
 ghost use mathlib.Core.Bool.{Bool, true, false};
 ghost use Prim.Native.Nat.{ℕ, _+_, _*_, _-_, _<_, _≤_};
+ghost use mathlib.Core.List.{[]};
 ghost use lib.ListN.{length, getD};
 ghost use lib.Dec.{leb};
 ghost use Rattle.types.specs.Record.{typeAt};
 ghost use Rattle.types.specs.Code.{endOf};
-ghost use Rattle.types.specs.Limits.{max-bytes};
-ghost use Rattle.formula.specs.Heads.{byteAt, wordAt, nameAt, opAt, countAt, fewAt, exprBody, exprHead, predBody, predHead, declBody, declHead, targetAt};
+ghost use Rattle.types.specs.Limits.{max-bytes, max-names};
+ghost use Rattle.formula.specs.Heads.{byteAt, wordAt, nameAt, opAt, countAt, fewAt, exprBody, exprHead, predBody, predHead, predEnd, declBody, declHead, targetAt};
 ghost use Rattle.formula.specs.Reader.{ownOf, declareOf, closedOf, moved, typeIn, spellingIn, forget, after};
 ghost use Rattle.formula.specs.Parse.{declAt, declsAt, exprAt, exprsAt, predAt, predsAt, targetIn, targetsAt, pairIn, pairsAt, becomesAt, formulaAt, parseOf, formOf};
-ghost use Rattle.formula.specs.EnvParse.{entryAt, capped};
-ghost use Rattle.formula.specs.EnvTold.{Told};
+ghost use Rattle.formula.specs.EnvParse.{entryAt, entriesFrom, capped, environmentOf};
+ghost use Rattle.formula.specs.EnvTold.{blank, answerOf};
+ghost use Rattle.formula.specs.EnvSteps.{enteredAt};
 use types::Name;
 use types::Place;
 use types::TypeEnd;
@@ -325,6 +327,24 @@ fn pred_head(s: &[u8], at: Place) -> PredAt
     }
 }
 
+// The place after a predicate's head.
+fn pred_end(h: PredHead) -> Place
+    ensures { λ r. ⌜ r ≡ predEnd h ⌝ }
+{
+    match h {
+        PredHead::Constant(e) => e,
+        PredHead::Variable(e) => e,
+        PredHead::Relational(_, e) => e,
+        PredHead::Connective(e) => e,
+        PredHead::Junction(_, e) => e,
+        PredHead::Negation(e) => e,
+        PredHead::Quantification(_, e) => e,
+        PredHead::Simple(e) => e,
+        PredHead::Multiple(_, e) => e,
+        PredHead::Application(_, e) => e,
+    }
+}
+
 fn decl_body(k: u8, p: Place) -> DeclAt
     ensures { λ r. ⌜ r ≡ declBody k p ⌝ }
 {
@@ -601,50 +621,27 @@ fn read_pred(s: &[u8], names: u32, left: u32, o: Out) -> Out
                         return Out::Stop(Fault::Beyond(at));
                     }
                     let l = left - 1;
+                    let begin = Out::Next(moved_to(pred_end(h), st));
                     match h {
-                        PredHead::Constant(e) => Out::Next(moved_to(e, st)),
-                        PredHead::Variable(e) => Out::Next(moved_to(e, st)),
-                        PredHead::Relational(_, e) => {
-                            let a = read_expr(s, names, false, l, Out::Next(moved_to(e, st)));
+                        PredHead::Constant(_) => begin,
+                        PredHead::Variable(_) => begin,
+                        PredHead::Relational(_, _) => {
+                            let a = read_expr(s, names, false, l, begin);
                             read_expr(s, names, false, l, a)
                         }
-                        PredHead::Connective(e) => {
-                            let a = read_pred(s, names, l, Out::Next(moved_to(e, st)));
+                        PredHead::Connective(_) => {
+                            let a = read_pred(s, names, l, begin);
                             read_pred(s, names, l, a)
                         }
-                        PredHead::Junction(n, e) => read_preds(
-                            s,
-                            names,
-                            l,
-                            n,
-                            Out::Next(moved_to(e, st)),
-                        ),
-                        PredHead::Negation(e) => read_pred(s, names, l, Out::Next(moved_to(e, st))),
-                        PredHead::Quantification(n, e) => {
-                            let ds = read_decls(s, names, l, n, Out::Next(moved_to(e, st)));
+                        PredHead::Junction(n, _) => read_preds(s, names, l, n, begin),
+                        PredHead::Negation(_) => read_pred(s, names, l, begin),
+                        PredHead::Quantification(n, _) => {
+                            let ds = read_decls(s, names, l, n, begin);
                             close(st.opened, read_pred(s, names, l, ds))
                         }
-                        PredHead::Simple(e) => read_expr(
-                            s,
-                            names,
-                            false,
-                            l,
-                            Out::Next(moved_to(e, st)),
-                        ),
-                        PredHead::Multiple(n, e) => read_exprs(
-                            s,
-                            names,
-                            l,
-                            n,
-                            Out::Next(moved_to(e, st)),
-                        ),
-                        PredHead::Application(n, e) => read_exprs(
-                            s,
-                            names,
-                            l,
-                            n,
-                            Out::Next(moved_to(e, st)),
-                        ),
+                        PredHead::Simple(_) => read_expr(s, names, false, l, begin),
+                        PredHead::Multiple(n, _) => read_exprs(s, names, l, n, begin),
+                        PredHead::Application(n, _) => read_exprs(s, names, l, n, begin),
                     }
                 }
             }
@@ -809,6 +806,7 @@ pub fn check_formula(s: &[u8], names: u32) -> Form
 // ---- environments
 
 // What the test of an environment answers: its form, and for each name the place of its type plus 1, or 0.
+// After a fault, or for a stream that is too long, every cell is 0.
 pub struct Environment {
     pub form: Form,
     pub types: [u32; 256],
@@ -845,18 +843,51 @@ fn ended(s: &[u8], at: u32) -> bool
     s.len() <= at as usize
 }
 
-// Tests whether a stream spells an environment inside the limits; if not, where it first fails. A count over 256 counts as 256.
-pub fn check_environment(s: &[u8], names: u32) -> Environment
-    ensures { λ r. ⌜ Told names (now (s .entry)) r ⌝ }
+// An entry: its name, the place of its type, and where it ends; or its first fault.
+pub enum Entered {
+    Wrong(Fault),
+    Typed(u16, Place, Place),
+}
+
+// The entry at a place. types: the table of the entries before it.
+fn read_entry(s: &[u8], names: u32, types: &[u32; 256], at: Place) -> Entered
+    requires { ⌜ length (now s) ≤ max-bytes ⌝ }
+    requires { ⌜ names ≤ max-names ⌝ }
+    ensures { λ r. ⌜ r ≡ enteredAt names (now (s .entry)) (now (types .entry)) at ⌝ }
+{
+    match entry_at(s, names, at) {
+        Word::Missing => Entered::Wrong(Fault::Malformed(at)),
+        Word::Of(x, e) => {
+            let i = x as usize;
+            if types[i] != 0 {
+                return Entered::Wrong(Fault::Malformed(at));
+            }
+            match type_at(s, names, LEVELS - 1, e) {
+                TypeEnd::End(f) => Entered::Typed(x, e, f),
+                TypeEnd::Malformed(p) => Entered::Wrong(Fault::Malformed(p)),
+                TypeEnd::Deep(p) => Entered::Wrong(Fault::Beyond(p)),
+            }
+        }
+    }
+}
+
+// A form with an empty table.
+fn refused(form: Form) -> Environment
+    ensures { λ r. ⌜ r ≡ blank form ⌝ }
+{
+    Environment {
+        form,
+        types: [0; 256],
+    }
+}
+
+// The entries of a stream that is not too long, names below the count.
+fn read_entries(s: &[u8], names: u32) -> Environment
+    requires { ⌜ length (now s) ≤ max-bytes ⌝ }
+    requires { ⌜ names ≤ max-names ⌝ }
+    ensures { λ r. ⌜ r ≡ answerOf (entriesFrom (length (now (s .entry))) names (now (s .entry)) [] 0) ⌝ }
 {
     let mut types = [0; 256];
-    if s.len() > MAX_BYTES {
-        return Environment {
-            form: Form::TooLong,
-            types,
-        };
-    }
-    let n = cap(names);
     let mut at = 0;
     let mut turns = s.len();
     while 0 < turns {
@@ -866,39 +897,14 @@ pub fn check_environment(s: &[u8], names: u32) -> Environment
                 types,
             };
         }
-        match entry_at(s, n, Place(at)) {
-            Word::Missing => {
-                return Environment {
-                    form: Form::Bad(Fault::Malformed(Place(at))),
-                    types,
-                };
+        match read_entry(s, names, &types, Place(at)) {
+            Entered::Wrong(f) => {
+                return refused(Form::Bad(f));
             }
-            Word::Of(x, e) => {
+            Entered::Typed(x, e, f) => {
                 let i = x as usize;
-                if types[i] != 0 {
-                    return Environment {
-                        form: Form::Bad(Fault::Malformed(Place(at))),
-                        types,
-                    };
-                }
-                match type_at(s, n, LEVELS - 1, e) {
-                    TypeEnd::End(f) => {
-                        types[i] = e.0 + 1;
-                        at = f.0;
-                    }
-                    TypeEnd::Malformed(p) => {
-                        return Environment {
-                            form: Form::Bad(Fault::Malformed(p)),
-                            types,
-                        };
-                    }
-                    TypeEnd::Deep(p) => {
-                        return Environment {
-                            form: Form::Bad(Fault::Beyond(p)),
-                            types,
-                        };
-                    }
-                }
+                types[i] = e.0 + 1;
+                at = f.0;
             }
         }
         turns -= 1;
@@ -909,8 +915,15 @@ pub fn check_environment(s: &[u8], names: u32) -> Environment
             types,
         };
     }
-    Environment {
-        form: Form::Bad(Fault::Malformed(Place(at))),
-        types,
+    refused(Form::Bad(Fault::Malformed(Place(at))))
+}
+
+// Tests whether a stream spells an environment inside the limits; if not, where it first fails. A count over 256 counts as 256.
+pub fn check_environment(s: &[u8], names: u32) -> Environment
+    ensures { λ r. ⌜ r ≡ answerOf (environmentOf names (now (s .entry))) ⌝ }
+{
+    if s.len() > MAX_BYTES {
+        return refused(Form::TooLong);
     }
+    read_entries(s, cap(names))
 }

@@ -9,9 +9,11 @@ use Rattle.formula.specs.declared.Fault.{Fault}
 use Rattle.formula.specs.declared.Form.{Form}
 use Rattle.formula.specs.declared.Form.the-variants.{Good, TooLong, Bad}
 use Rattle.formula.specs.declared.Environment.{Environment}
-use Rattle.formula.specs.EnvParse.{environmentOf}
-use Rattle.formula.specs.EnvTold.{Told}
-use Rattle.formula.specs.Parse.{parseOf, formOf}
+use Rattle.formula.specs.EnvParse.{capped, environmentOf, Table}
+use Rattle.formula.specs.EnvTold.{answerOf}
+use Rattle.formula.specs.EnvSteps.{answer-form, answer-table}
+use Rattle.formula.specs.Environment.{Entries}
+use Rattle.formula.specs.Parse.{parsed, parseOf, formOf}
 use Rattle.inference.specs.Infer.{sized, inferOf}
 use Rattle.finisher.specs.Finisher.{most}
 use Rattle.memory.specs.Memory.{cleared}
@@ -43,13 +45,19 @@ module _ (form : Form) (s env types : List ℕ) (cap budget : ℕ) (out work : L
       ∙ sym (ap (λ (g : Form). formulaCall g s env types cap budget out work) e)
 
 -- ---- by the environment's form
-module _ (s env : List ℕ) (names cap budget : ℕ) (out work : List ℕ) (t : Environment) (h : Told names env t)
+module _ (s env : List ℕ) (names cap budget : ℕ) (out work : List ℕ) (t : Environment) (h : t ≡ answerOf (environmentOf names env))
     (bs : (i : ℕ) → getD s i 0 < 256) (be : (i : ℕ) → getD env i 0 < 256) (within : budget ≤ most) (ok : sized (length s) (length env) names cap (length work) ≡ true) where
+  form-told : t .form ≡ formOf (environmentOf names env)
+  form-told = ap (λ (x : Environment). x .form) h ∙ answer-form (environmentOf names env)
+
+  table-told : (es : Entries) → environmentOf names env ≡ parsed es → Table (capped names) env es (t .types)
+  table-told es k = subst (λ (x : Environment). Table (capped names) env es (x .types)) (sym h) (answer-table names env be es k)
+
   infers : (x : Call) → x ≡ environmentCall (t .form) (formOf (parseOf names s)) s env (t .types) cap budget out work → length (x .output) ≡ length out
       → x ≡ callOf (inferOf s env names cap budget (length out) (length work)) out work
   infers x e l =
-      let f = e ∙ ap (λ (g : Form). environmentCall g (formOf (parseOf names s)) s env (t .types) cap budget out work) (h .form) in
-      f ∙ calls-infer s env (t .types) names cap budget out work bs be within (h .table) ok (sym (ap (λ (y : Call). length (y .output)) f) ∙ l)
+      let f = e ∙ ap (λ (g : Form). environmentCall g (formOf (parseOf names s)) s env (t .types) cap budget out work) form-told in
+      f ∙ calls-infer s env (t .types) names cap budget out work bs be within table-told ok (sym (ap (λ (y : Call). length (y .output)) f) ∙ l)
 
   pub infer-long : t .form ≡ TooLong → called Oversized out work ≡ callOf (inferOf s env names cap budget (length out) (length work)) out work
   unfolding environmentCall called

@@ -2,6 +2,7 @@ use borrow.Author.Needs.{needs}
 use native.Mathlib.Omega.{arith}
 use Prim.Native.Nat.{ℕ, _<_, _≤_, _+_, _*_}
 use mathlib.Core.Path.{_≡_, refl, sym, ap, _∙_}
+use Rattle.formula.specs.Heads.{predEnd}
 use Rattle.formula.specs.Reader.{after}
 use Rattle.formula.specs.Parse.{exprsAt, predsAt}
 use Rattle.formula.specs.Steps.{after-stop, expr-wrong, expr-deep, expr-node, pred-wrong, pred-deep, pred-node, by-free, by-bound, by-literal, by-atomic, by-extension, by-truth, by-binary, by-associative, by-unary, by-quantified, by-ascribed, by-explicit, by-constant, by-variable, by-relational, by-connective, by-junction, by-negation, by-quantification, by-simple, by-multiple, by-application, exprs-none, exprs-next, preds-none, preds-next}
@@ -23,6 +24,7 @@ use Rattle.formula.proofs.close.Reads as close-reads
 use Rattle.formula.proofs.expr_head.Reads as expr-head-reads
 use Rattle.formula.proofs.moved_to.Reads as moved-to-reads
 use Rattle.formula.proofs.own.Reads as own-reads
+use Rattle.formula.proofs.pred_end.Reads as pred-end-reads
 use Rattle.formula.proofs.pred_head.Reads as pred-head-reads
 use Rattle.formula.proofs.read_decls.Reads as read-decls-reads
 use Rattle.formula.proofs.read_spelling.Reads as read-spelling-reads
@@ -80,7 +82,7 @@ abbrev read-exprs-env : ℕ → read-exprs-lts.Claims
 read-exprs-env t = (read-expr-below t, read-expr.Post)
 
 abbrev read-pred-env : ℕ → read-pred-lts.Claims
-read-pred-env t = (pred-head-reads.Asked, pred-head-reads.Learnt, moved-to-reads.Asked, moved-to-reads.Learnt, read-expr-below t, read-expr.Post, read-pred-below t, read-pred.Post, read-preds-below t, read-preds.Post, read-decls-reads.Asked, read-decls-reads.Learnt, close-reads.Asked, close-reads.Learnt, read-exprs-below t, read-exprs.Post)
+read-pred-env t = (pred-head-reads.Asked, pred-head-reads.Learnt, pred-end-reads.Asked, pred-end-reads.Learnt, moved-to-reads.Asked, moved-to-reads.Learnt, read-expr-below t, read-expr.Post, read-pred-below t, read-pred.Post, read-preds-below t, read-preds.Post, read-decls-reads.Asked, read-decls-reads.Learnt, close-reads.Asked, close-reads.Learnt, read-exprs-below t, read-exprs.Post)
 
 abbrev read-preds-env : ℕ → read-preds-lts.Claims
 read-preds-env t = (read-pred-below t, read-pred.Post)
@@ -318,23 +320,20 @@ read-pred-returns t c = rw (c .before .before .before .before .before .before .b
 read-pred-sub-l : (t : ℕ) → read-pred-lts.Need-sub-l (read-pred-env t) (read-pred-at t) read-pred.Post
 read-pred-sub-l t c = search needs
 
-read-pred-enum-known-h-2 : (t : ℕ) → read-pred-lts.Need-enum-known-h-2 (read-pred-env t) (read-pred-at t) read-pred.Post
-read-pred-enum-known-h-2 t c = search needs
+read-pred-pred-end-requires : (t : ℕ) → read-pred-lts.Need-pred-end-requires (read-pred-env t) (read-pred-at t) read-pred.Post
+read-pred-pred-end-requires t c κs = search needs
 
 read-pred-moved-to-requires : (t : ℕ) → read-pred-lts.Need-moved-to-requires (read-pred-env t) (read-pred-at t) read-pred.Post
 read-pred-moved-to-requires t c κs = search needs
 
-read-pred-enum-known-h-3 : (t : ℕ) → read-pred-lts.Need-enum-known-h-3 (read-pred-env t) (read-pred-at t) read-pred.Post
-read-pred-enum-known-h-3 t c = search needs
+read-pred-enum-told-2 : (t : ℕ) → read-pred-lts.Need-enum-told-2 (read-pred-env t) (read-pred-at t) read-pred.Post
+read-pred-enum-told-2 t c = search needs
 
-read-pred-moved-to-requires-2 : (t : ℕ) → read-pred-lts.Need-moved-to-requires-2 (read-pred-env t) (read-pred-at t) read-pred.Post
-read-pred-moved-to-requires-2 t c κs = search needs
+read-pred-enum-told-3 : (t : ℕ) → read-pred-lts.Need-enum-told-3 (read-pred-env t) (read-pred-at t) read-pred.Post
+read-pred-enum-told-3 t c = search needs
 
-read-pred-enum-known-h-4 : (t : ℕ) → read-pred-lts.Need-enum-known-h-4 (read-pred-env t) (read-pred-at t) read-pred.Post
-read-pred-enum-known-h-4 t c = search needs
-
-read-pred-moved-to-requires-3 : (t : ℕ) → read-pred-lts.Need-moved-to-requires-3 (read-pred-env t) (read-pred-at t) read-pred.Post
-read-pred-moved-to-requires-3 t c κs = search needs
+read-pred-enum-told-4 : (t : ℕ) → read-pred-lts.Need-enum-told-4 (read-pred-env t) (read-pred-at t) read-pred.Post
+read-pred-enum-told-4 t c = search needs
 
 read-pred-read-expr-requires : (t : ℕ) → read-pred-lts.Need-read-expr-requires (read-pred-env t) (read-pred-at t) read-pred.Post
 read-pred-read-expr-requires t c κs = search needs
@@ -342,11 +341,8 @@ read-pred-read-expr-requires t c κs = search needs
 read-pred-read-expr-requires-2 : (t : ℕ) → read-pred-lts.Need-read-expr-requires-2 (read-pred-env t) (read-pred-at t) read-pred.Post
 read-pred-read-expr-requires-2 t c κs = search needs
 
-read-pred-enum-known-h-5 : (t : ℕ) → read-pred-lts.Need-enum-known-h-5 (read-pred-env t) (read-pred-at t) read-pred.Post
-read-pred-enum-known-h-5 t c = search needs
-
-read-pred-moved-to-requires-4 : (t : ℕ) → read-pred-lts.Need-moved-to-requires-4 (read-pred-env t) (read-pred-at t) read-pred.Post
-read-pred-moved-to-requires-4 t c κs = search needs
+read-pred-enum-told-5 : (t : ℕ) → read-pred-lts.Need-enum-told-5 (read-pred-env t) (read-pred-at t) read-pred.Post
+read-pred-enum-told-5 t c = search needs
 
 read-pred-read-pred-requires : (t : ℕ) → read-pred-lts.Need-read-pred-requires (read-pred-env t) (read-pred-at t) read-pred.Post
 read-pred-read-pred-requires t c κs = search needs
@@ -354,29 +350,20 @@ read-pred-read-pred-requires t c κs = search needs
 read-pred-read-pred-requires-2 : (t : ℕ) → read-pred-lts.Need-read-pred-requires-2 (read-pred-env t) (read-pred-at t) read-pred.Post
 read-pred-read-pred-requires-2 t c κs = search needs
 
-read-pred-enum-known-h-6 : (t : ℕ) → read-pred-lts.Need-enum-known-h-6 (read-pred-env t) (read-pred-at t) read-pred.Post
-read-pred-enum-known-h-6 t c = search needs
-
-read-pred-moved-to-requires-5 : (t : ℕ) → read-pred-lts.Need-moved-to-requires-5 (read-pred-env t) (read-pred-at t) read-pred.Post
-read-pred-moved-to-requires-5 t c κs = search needs
+read-pred-enum-known-h-2 : (t : ℕ) → read-pred-lts.Need-enum-known-h-2 (read-pred-env t) (read-pred-at t) read-pred.Post
+read-pred-enum-known-h-2 t c = search needs
 
 read-pred-read-preds-requires : (t : ℕ) → read-pred-lts.Need-read-preds-requires (read-pred-env t) (read-pred-at t) read-pred.Post
 read-pred-read-preds-requires t c κs = search needs
 
-read-pred-enum-known-h-7 : (t : ℕ) → read-pred-lts.Need-enum-known-h-7 (read-pred-env t) (read-pred-at t) read-pred.Post
-read-pred-enum-known-h-7 t c = search needs
-
-read-pred-moved-to-requires-6 : (t : ℕ) → read-pred-lts.Need-moved-to-requires-6 (read-pred-env t) (read-pred-at t) read-pred.Post
-read-pred-moved-to-requires-6 t c κs = search needs
+read-pred-enum-told-6 : (t : ℕ) → read-pred-lts.Need-enum-told-6 (read-pred-env t) (read-pred-at t) read-pred.Post
+read-pred-enum-told-6 t c = search needs
 
 read-pred-read-pred-requires-3 : (t : ℕ) → read-pred-lts.Need-read-pred-requires-3 (read-pred-env t) (read-pred-at t) read-pred.Post
 read-pred-read-pred-requires-3 t c κs = search needs
 
-read-pred-enum-known-h-8 : (t : ℕ) → read-pred-lts.Need-enum-known-h-8 (read-pred-env t) (read-pred-at t) read-pred.Post
-read-pred-enum-known-h-8 t c = search needs
-
-read-pred-moved-to-requires-7 : (t : ℕ) → read-pred-lts.Need-moved-to-requires-7 (read-pred-env t) (read-pred-at t) read-pred.Post
-read-pred-moved-to-requires-7 t c κs = search needs
+read-pred-enum-known-h-3 : (t : ℕ) → read-pred-lts.Need-enum-known-h-3 (read-pred-env t) (read-pred-at t) read-pred.Post
+read-pred-enum-known-h-3 t c = search needs
 
 read-pred-read-decls-requires : (t : ℕ) → read-pred-lts.Need-read-decls-requires (read-pred-env t) (read-pred-at t) read-pred.Post
 read-pred-read-decls-requires t c κs = search needs
@@ -387,29 +374,20 @@ read-pred-read-pred-requires-4 t c κs = search needs
 read-pred-close-requires : (t : ℕ) → read-pred-lts.Need-close-requires (read-pred-env t) (read-pred-at t) read-pred.Post
 read-pred-close-requires t c κs = search needs
 
-read-pred-enum-known-h-9 : (t : ℕ) → read-pred-lts.Need-enum-known-h-9 (read-pred-env t) (read-pred-at t) read-pred.Post
-read-pred-enum-known-h-9 t c = search needs
-
-read-pred-moved-to-requires-8 : (t : ℕ) → read-pred-lts.Need-moved-to-requires-8 (read-pred-env t) (read-pred-at t) read-pred.Post
-read-pred-moved-to-requires-8 t c κs = search needs
+read-pred-enum-told-7 : (t : ℕ) → read-pred-lts.Need-enum-told-7 (read-pred-env t) (read-pred-at t) read-pred.Post
+read-pred-enum-told-7 t c = search needs
 
 read-pred-read-expr-requires-3 : (t : ℕ) → read-pred-lts.Need-read-expr-requires-3 (read-pred-env t) (read-pred-at t) read-pred.Post
 read-pred-read-expr-requires-3 t c κs = search needs
 
-read-pred-enum-known-h-10 : (t : ℕ) → read-pred-lts.Need-enum-known-h-10 (read-pred-env t) (read-pred-at t) read-pred.Post
-read-pred-enum-known-h-10 t c = search needs
-
-read-pred-moved-to-requires-9 : (t : ℕ) → read-pred-lts.Need-moved-to-requires-9 (read-pred-env t) (read-pred-at t) read-pred.Post
-read-pred-moved-to-requires-9 t c κs = search needs
+read-pred-enum-known-h-4 : (t : ℕ) → read-pred-lts.Need-enum-known-h-4 (read-pred-env t) (read-pred-at t) read-pred.Post
+read-pred-enum-known-h-4 t c = search needs
 
 read-pred-read-exprs-requires : (t : ℕ) → read-pred-lts.Need-read-exprs-requires (read-pred-env t) (read-pred-at t) read-pred.Post
 read-pred-read-exprs-requires t c κs = search needs
 
-read-pred-enum-known-h-11 : (t : ℕ) → read-pred-lts.Need-enum-known-h-11 (read-pred-env t) (read-pred-at t) read-pred.Post
-read-pred-enum-known-h-11 t c = search needs
-
-read-pred-moved-to-requires-10 : (t : ℕ) → read-pred-lts.Need-moved-to-requires-10 (read-pred-env t) (read-pred-at t) read-pred.Post
-read-pred-moved-to-requires-10 t c κs = search needs
+read-pred-enum-known-h-5 : (t : ℕ) → read-pred-lts.Need-enum-known-h-5 (read-pred-env t) (read-pred-at t) read-pred.Post
+read-pred-enum-known-h-5 t c = search needs
 
 read-pred-read-exprs-requires-2 : (t : ℕ) → read-pred-lts.Need-read-exprs-requires-2 (read-pred-env t) (read-pred-at t) read-pred.Post
 read-pred-read-exprs-requires-2 t c κs = search needs
@@ -421,37 +399,44 @@ read-pred-returns-3 : (t : ℕ) → read-pred-lts.Need-returns-3 (read-pred-env 
 read-pred-returns-3 t c = rw (c .before .before .before .before .before .o2 .given .1) (pred-wrong _ _ _ _ (sym (c .before .before .pred-head .ensures) ∙ c .enum-told .given .1))
 
 read-pred-returns-4 : (t : ℕ) → read-pred-lts.Need-returns-4 (read-pred-env t) (read-pred-at t) read-pred.Post
-read-pred-returns-4 t c = rw (c .before .before .before .before .before .before .before .before .before .before .before .o2 .given .1) (pred-node _ _ _ _ _ _ (c .before .before .before .before .if1 .left) (sym (c .before .before .before .before .before .before .before .before .pred-head .ensures) ∙ c .before .before .before .before .before .before .h .given .1) (c .before .before .h2 .given .1) _ (rw (c .moved-to .ensures) (by-constant _ _ _ _ _ _ _)))
+unfolding predEnd
+read-pred-returns-4 t c = rw (c .before .before .before .before .before .before .before .before .before .before .before .o2 .given .1) (pred-node _ _ _ _ _ _ (c .before .before .before .before .if1 .left) (sym (c .before .before .before .before .before .before .before .before .pred-head .ensures) ∙ c .before .before .before .before .before .before .h .given .1) (c .enum-told2 .given .1) _ (rw (c .before .before .moved-to .ensures, c .before .before .before .pred-end .ensures, c .enum-told2 .given .1) (by-constant _ _ _ _ _ _ _)))
 
 read-pred-returns-5 : (t : ℕ) → read-pred-lts.Need-returns-5 (read-pred-env t) (read-pred-at t) read-pred.Post
-read-pred-returns-5 t c = rw (c .before .before .before .before .before .before .before .before .before .before .before .o2 .given .1) (pred-node _ _ _ _ _ _ (c .before .before .before .before .if1 .left) (sym (c .before .before .before .before .before .before .before .before .pred-head .ensures) ∙ c .before .before .before .before .before .before .h .given .1) (c .before .before .h3 .given .1) _ (rw (c .moved-to2 .ensures) (by-variable _ _ _ _ _ _ _)))
+unfolding predEnd
+read-pred-returns-5 t c = rw (c .before .before .before .before .before .before .before .before .before .before .before .o2 .given .1) (pred-node _ _ _ _ _ _ (c .before .before .before .before .if1 .left) (sym (c .before .before .before .before .before .before .before .before .pred-head .ensures) ∙ c .before .before .before .before .before .before .h .given .1) (c .enum-told3 .given .1) _ (rw (c .before .before .moved-to .ensures, c .before .before .before .pred-end .ensures, c .enum-told3 .given .1) (by-variable _ _ _ _ _ _ _)))
 
 read-pred-returns-6 : (t : ℕ) → read-pred-lts.Need-returns-6 (read-pred-env t) (read-pred-at t) read-pred.Post
-read-pred-returns-6 t c = rw (c .before .before .before .before .before .before .before .before .before .before .before .before .before .o2 .given .1) (pred-node _ _ _ _ _ _ (c .before .before .before .before .before .before .if1 .left) (sym (c .before .before .before .before .before .before .before .before .before .before .pred-head .ensures) ∙ c .before .before .before .before .before .before .before .before .h .given .1) (c .before .before .before .before .h4 .given .1) _ (rw (c .read-expr2 .ensures, c .before .read-expr .ensures, c .before .before .moved-to3 .ensures) (by-relational _ _ _ _ _ _ _ _)))
+unfolding predEnd
+read-pred-returns-6 t c = rw (c .before .before .before .before .before .before .before .before .before .before .before .before .before .o2 .given .1) (pred-node _ _ _ _ _ _ (c .before .before .before .before .before .before .if1 .left) (sym (c .before .before .before .before .before .before .before .before .before .before .pred-head .ensures) ∙ c .before .before .before .before .before .before .before .before .h .given .1) (c .before .before .enum-told4 .given .1) _ (rw (c .read-expr2 .ensures, c .before .read-expr .ensures, c .before .before .before .before .moved-to .ensures, c .before .before .before .before .before .pred-end .ensures, c .before .before .enum-told4 .given .1) (by-relational _ _ _ _ _ _ _ _)))
 
 read-pred-returns-7 : (t : ℕ) → read-pred-lts.Need-returns-7 (read-pred-env t) (read-pred-at t) read-pred.Post
-read-pred-returns-7 t c = rw (c .before .before .before .before .before .before .before .before .before .before .before .before .before .o2 .given .1) (pred-node _ _ _ _ _ _ (c .before .before .before .before .before .before .if1 .left) (sym (c .before .before .before .before .before .before .before .before .before .before .pred-head .ensures) ∙ c .before .before .before .before .before .before .before .before .h .given .1) (c .before .before .before .before .h5 .given .1) _ (rw (c .read-pred2 .ensures, c .before .read-pred .ensures, c .before .before .moved-to4 .ensures) (by-connective _ _ _ _ _ _ _)))
+unfolding predEnd
+read-pred-returns-7 t c = rw (c .before .before .before .before .before .before .before .before .before .before .before .before .before .o2 .given .1) (pred-node _ _ _ _ _ _ (c .before .before .before .before .before .before .if1 .left) (sym (c .before .before .before .before .before .before .before .before .before .before .pred-head .ensures) ∙ c .before .before .before .before .before .before .before .before .h .given .1) (c .before .before .enum-told5 .given .1) _ (rw (c .read-pred2 .ensures, c .before .read-pred .ensures, c .before .before .before .before .moved-to .ensures, c .before .before .before .before .before .pred-end .ensures, c .before .before .enum-told5 .given .1) (by-connective _ _ _ _ _ _ _)))
 
 read-pred-returns-8 : (t : ℕ) → read-pred-lts.Need-returns-8 (read-pred-env t) (read-pred-at t) read-pred.Post
-unfolding predsAt
-read-pred-returns-8 t c = rw (c .before .before .before .before .before .before .before .before .before .before .before .before .o2 .given .1) (pred-node _ _ _ _ _ _ (c .before .before .before .before .before .if1 .left) (sym (c .before .before .before .before .before .before .before .before .before .pred-head .ensures) ∙ c .before .before .before .before .before .before .before .h .given .1) (c .before .before .before .h6 .given .1) _ (rw (c .read-preds .ensures, c .before .moved-to5 .ensures) (by-junction _ _ _ _ _ _ _ _)))
+unfolding predEnd predsAt
+read-pred-returns-8 t c = rw (c .before .before .before .before .before .before .before .before .before .before .before .before .before .o2 .given .1) (pred-node _ _ _ _ _ _ (c .before .before .before .before .before .before .if1 .left) (sym (c .before .before .before .before .before .before .before .before .before .before .pred-head .ensures) ∙ c .before .before .before .before .before .before .before .before .h .given .1) (c .before .before .h2 .given .1) _ (rw (c .read-preds .ensures, c .before .before .before .before .moved-to .ensures, c .before .before .before .before .before .pred-end .ensures, c .before .before .h2 .given .1) (by-junction _ _ _ _ _ _ _ _)))
 
 read-pred-returns-9 : (t : ℕ) → read-pred-lts.Need-returns-9 (read-pred-env t) (read-pred-at t) read-pred.Post
-read-pred-returns-9 t c = rw (c .before .before .before .before .before .before .before .before .before .before .before .before .o2 .given .1) (pred-node _ _ _ _ _ _ (c .before .before .before .before .before .if1 .left) (sym (c .before .before .before .before .before .before .before .before .before .pred-head .ensures) ∙ c .before .before .before .before .before .before .before .h .given .1) (c .before .before .before .h7 .given .1) _ (rw (c .read-pred3 .ensures, c .before .moved-to6 .ensures) (by-negation _ _ _ _ _ _ _)))
+unfolding predEnd
+read-pred-returns-9 t c = rw (c .before .before .before .before .before .before .before .before .before .before .before .before .o2 .given .1) (pred-node _ _ _ _ _ _ (c .before .before .before .before .before .if1 .left) (sym (c .before .before .before .before .before .before .before .before .before .pred-head .ensures) ∙ c .before .before .before .before .before .before .before .h .given .1) (c .before .enum-told6 .given .1) _ (rw (c .read-pred3 .ensures, c .before .before .before .moved-to .ensures, c .before .before .before .before .pred-end .ensures, c .before .enum-told6 .given .1) (by-negation _ _ _ _ _ _ _)))
 
 read-pred-returns-10 : (t : ℕ) → read-pred-lts.Need-returns-10 (read-pred-env t) (read-pred-at t) read-pred.Post
-read-pred-returns-10 t c = rw (c .before .before .before .before .before .before .before .before .before .before .before .before .before .before .o2 .given .1) (pred-node _ _ _ _ _ _ (c .before .before .before .before .before .before .before .if1 .left) (sym (c .before .before .before .before .before .before .before .before .before .before .before .pred-head .ensures) ∙ c .before .before .before .before .before .before .before .before .before .h .given .1) (c .before .before .before .before .before .h8 .given .1) _ (rw (c .close .ensures, c .before .read-pred4 .ensures, c .before .before .read-decls .ensures, c .before .before .before .moved-to7 .ensures) (by-quantification _ _ _ _ _ _ _ _)))
+unfolding predEnd
+read-pred-returns-10 t c = rw (c .before .before .before .before .before .before .before .before .before .before .before .before .before .before .before .o2 .given .1) (pred-node _ _ _ _ _ _ (c .before .before .before .before .before .before .before .before .if1 .left) (sym (c .before .before .before .before .before .before .before .before .before .before .before .before .pred-head .ensures) ∙ c .before .before .before .before .before .before .before .before .before .before .h .given .1) (c .before .before .before .before .h3 .given .1) _ (rw (c .close .ensures, c .before .read-pred4 .ensures, c .before .before .read-decls .ensures, c .before .before .before .before .before .before .moved-to .ensures, c .before .before .before .before .before .before .before .pred-end .ensures, c .before .before .before .before .h3 .given .1) (by-quantification _ _ _ _ _ _ _ _)))
 
 read-pred-returns-11 : (t : ℕ) → read-pred-lts.Need-returns-11 (read-pred-env t) (read-pred-at t) read-pred.Post
-read-pred-returns-11 t c = rw (c .before .before .before .before .before .before .before .before .before .before .before .before .o2 .given .1) (pred-node _ _ _ _ _ _ (c .before .before .before .before .before .if1 .left) (sym (c .before .before .before .before .before .before .before .before .before .pred-head .ensures) ∙ c .before .before .before .before .before .before .before .h .given .1) (c .before .before .before .h9 .given .1) _ (rw (c .read-expr3 .ensures, c .before .moved-to8 .ensures) (by-simple _ _ _ _ _ _ _)))
+unfolding predEnd
+read-pred-returns-11 t c = rw (c .before .before .before .before .before .before .before .before .before .before .before .before .o2 .given .1) (pred-node _ _ _ _ _ _ (c .before .before .before .before .before .if1 .left) (sym (c .before .before .before .before .before .before .before .before .before .pred-head .ensures) ∙ c .before .before .before .before .before .before .before .h .given .1) (c .before .enum-told7 .given .1) _ (rw (c .read-expr3 .ensures, c .before .before .before .moved-to .ensures, c .before .before .before .before .pred-end .ensures, c .before .enum-told7 .given .1) (by-simple _ _ _ _ _ _ _)))
 
 read-pred-returns-12 : (t : ℕ) → read-pred-lts.Need-returns-12 (read-pred-env t) (read-pred-at t) read-pred.Post
-unfolding exprsAt
-read-pred-returns-12 t c = rw (c .before .before .before .before .before .before .before .before .before .before .before .before .o2 .given .1) (pred-node _ _ _ _ _ _ (c .before .before .before .before .before .if1 .left) (sym (c .before .before .before .before .before .before .before .before .before .pred-head .ensures) ∙ c .before .before .before .before .before .before .before .h .given .1) (c .before .before .before .h10 .given .1) _ (rw (c .read-exprs .ensures, c .before .moved-to9 .ensures) (by-multiple _ _ _ _ _ _ _ _)))
+unfolding predEnd exprsAt
+read-pred-returns-12 t c = rw (c .before .before .before .before .before .before .before .before .before .before .before .before .before .o2 .given .1) (pred-node _ _ _ _ _ _ (c .before .before .before .before .before .before .if1 .left) (sym (c .before .before .before .before .before .before .before .before .before .before .pred-head .ensures) ∙ c .before .before .before .before .before .before .before .before .h .given .1) (c .before .before .h4 .given .1) _ (rw (c .read-exprs .ensures, c .before .before .before .before .moved-to .ensures, c .before .before .before .before .before .pred-end .ensures, c .before .before .h4 .given .1) (by-multiple _ _ _ _ _ _ _ _)))
 
 read-pred-returns-13 : (t : ℕ) → read-pred-lts.Need-returns-13 (read-pred-env t) (read-pred-at t) read-pred.Post
-unfolding exprsAt
-read-pred-returns-13 t c = rw (c .before .before .before .before .before .before .before .before .before .before .before .before .o2 .given .1) (pred-node _ _ _ _ _ _ (c .before .before .before .before .before .if1 .left) (sym (c .before .before .before .before .before .before .before .before .before .pred-head .ensures) ∙ c .before .before .before .before .before .before .before .h .given .1) (c .before .before .before .h11 .given .1) _ (rw (c .read-exprs2 .ensures, c .before .moved-to10 .ensures) (by-application _ _ _ _ _ _ _ _)))
+unfolding predEnd exprsAt
+read-pred-returns-13 t c = rw (c .before .before .before .before .before .before .before .before .before .before .before .before .before .o2 .given .1) (pred-node _ _ _ _ _ _ (c .before .before .before .before .before .before .if1 .left) (sym (c .before .before .before .before .before .before .before .before .before .before .pred-head .ensures) ∙ c .before .before .before .before .before .before .before .before .h .given .1) (c .before .before .h5 .given .1) _ (rw (c .read-exprs2 .ensures, c .before .before .before .before .moved-to .ensures, c .before .before .before .before .before .pred-end .ensures, c .before .before .h5 .given .1) (by-application _ _ _ _ _ _ _ _)))
 
 abbrev read-preds-Inv-loop : read-preds-lts.InvT-loop
 read-preds-Inv-loop s names left n cur₀ i₀ cur i = (after cur (predsAt left names s i) ≡ after cur₀ (predsAt left names s i₀)) × (i ≤ i₀)
@@ -575,37 +560,29 @@ pub +read-expr+read-exprs+read-pred+read-preds-spec : {M : Type 1} → statement
     (read-pred-enum-known-h t)
     (read-pred-returns t)
     (read-pred-sub-l t)
-    (read-pred-enum-known-h-2 t)
+    (read-pred-pred-end-requires t)
     (read-pred-moved-to-requires t)
-    (read-pred-enum-known-h-3 t)
-    (read-pred-moved-to-requires-2 t)
-    (read-pred-enum-known-h-4 t)
-    (read-pred-moved-to-requires-3 t)
+    (read-pred-enum-told-2 t)
+    (read-pred-enum-told-3 t)
+    (read-pred-enum-told-4 t)
     (read-pred-read-expr-requires t)
     (read-pred-read-expr-requires-2 t)
-    (read-pred-enum-known-h-5 t)
-    (read-pred-moved-to-requires-4 t)
+    (read-pred-enum-told-5 t)
     (read-pred-read-pred-requires t)
     (read-pred-read-pred-requires-2 t)
-    (read-pred-enum-known-h-6 t)
-    (read-pred-moved-to-requires-5 t)
+    (read-pred-enum-known-h-2 t)
     (read-pred-read-preds-requires t)
-    (read-pred-enum-known-h-7 t)
-    (read-pred-moved-to-requires-6 t)
+    (read-pred-enum-told-6 t)
     (read-pred-read-pred-requires-3 t)
-    (read-pred-enum-known-h-8 t)
-    (read-pred-moved-to-requires-7 t)
+    (read-pred-enum-known-h-3 t)
     (read-pred-read-decls-requires t)
     (read-pred-read-pred-requires-4 t)
     (read-pred-close-requires t)
-    (read-pred-enum-known-h-9 t)
-    (read-pred-moved-to-requires-8 t)
+    (read-pred-enum-told-7 t)
     (read-pred-read-expr-requires-3 t)
-    (read-pred-enum-known-h-10 t)
-    (read-pred-moved-to-requires-9 t)
+    (read-pred-enum-known-h-4 t)
     (read-pred-read-exprs-requires t)
-    (read-pred-enum-known-h-11 t)
-    (read-pred-moved-to-requires-10 t)
+    (read-pred-enum-known-h-5 t)
     (read-pred-read-exprs-requires-2 t)
     (read-pred-returns-2 t)
     (read-pred-returns-3 t)
