@@ -9,7 +9,7 @@ use Rattle.formula.specs.declared.Environment.{Environment}
 use Rattle.formula.specs.Environment.{Entries}
 use Rattle.formula.specs.Parse.{Parsed, parsed, too-long, faulty}
 use Rattle.formula.specs.EnvParse.{placesFrom}
-use Rattle.formula.specs.Limits.{max-names}
+use Rattle.types.specs.Limits.{max-names}
 
 abbrev pub empty : List ℕ
 empty = replicate max-names 0
