@@ -10,6 +10,9 @@ use writer::Measured;
 ghost use mathlib.Core.Path.{_≡_};
 ghost use Rattle.type_text.specs.Answer.{answerOf, writeAnswer, writePage, readAnswer, readPage};
 
+// The depth that a type read may have: a reader counts it in a byte.
+const MAX_DEPTH: u8 = types::MAX_DEPTH as u8;
+
 // The first fault of a record or of a text.
 pub enum Fault {
     Malformed(usize),
@@ -95,7 +98,7 @@ pub fn read(text: &[u8], table: &[u8], page: &mut [u8]) -> Answer
             if e != text.len() {
                 return Answer::Malformed(e);
             }
-            if d > types::MAX_DEPTH {
+            if d > MAX_DEPTH {
                 return Answer::Deep(0);
             }
             match room {
