@@ -1,7 +1,7 @@
--- Bytes written after the walk: numbers, problems with their names, and types, each after the bytes before it or counted as over.
--- After this file a reader knows which bytes `listOf` and `spellOf` write, and that they change nothing else.
-use Prim.Native.Nat.{ℕ, zero, _+_, _*_, _/_, _%_, _≤_, _<_}
-use mathlib.Core.Path.{_≡_, refl, sym, _∙_, ap, ap₂, subst}
+-- Types written after the walk: the bytes of each come after those before it, or are counted as over.
+-- After this file a reader knows which bytes `spellOf` writes, and that it changes nothing else.
+use Prim.Native.Nat.{ℕ, suc, _+_, _≤_}
+use mathlib.Core.Path.{_≡_, refl, sym, _∙_, ap, ap₂}
 use mathlib.Core.Bool.{Bool, true, false}
 use mathlib.Core.List.{List, [], _∷_, _++_}
 use native.Mathlib.Omega.{arith}
@@ -14,60 +14,15 @@ use Rattle.types.specs.Ty.{Ty}
 use Rattle.unification.specs.Arena.{read}
 use Rattle.unification.specs.Put.{Page, Sheet, put, lay, lay-length, lay-take, put-done, put-full}
 use Rattle.unification.specs.Put as P
-use Rattle.inference.specs.Answer.{Problem, two, four, spellProblem}
 use Rattle.machine.specs.declared.State.{State}
-use Rattle.machine.specs.Forms.{test, then}
-use Rattle.machine.specs.Machine.{Mach, withSt, bytesOf, overOf, emitOf, twoOf, fourOf, listOf}
+use Rattle.machine.specs.Forms.{then}
+use Rattle.machine.specs.Machine.{Mach, bytesOf, overOf}
 use Rattle.finisher.specs.Finisher.{most, laidBy, spellOf}
 use Rattle.simulation.specs.Relation.{Wrote}
 use Rattle.simulation.specs.Stand.{test-yes, test-no}
-use Rattle.simulation.specs.Output.{spoken, Spoke, assoc, spoke-emit, spoke-start}
+use Rattle.simulation.specs.Steps.{nil-right}
+use Rattle.simulation.specs.Output.{spoken, Spoke, assoc}
 
-pub nil-right : (l : List ℕ) → l ++ [] ≡ l
-nil-right [] = refl
-nil-right (x ∷ l) = ap (λ (k : List ℕ). x ∷ k) (nil-right l)
-
-module _ (room : ℕ) where
-  -- ---- numbers
-  pub spoke-two : (v : ℕ) (m m1 : Mach) (P : List ℕ) → m .st .stop ≡ 0 → Spoke room P m m1 → Spoke room (P ++ two v) m (twoOf v m1)
-  unfolding twoOf then two
-  spoke-two v m m1 P g s = subst (λ (l : List ℕ). Spoke room l m (emitOf (v / 256 % 256) (emitOf (v % 256) m1))) (assoc P (v % 256 ∷ []) (v / 256 % 256 ∷ []))
-      (spoke-emit room (v / 256 % 256) m (emitOf (v % 256) m1) (P ++ (v % 256 ∷ [])) g (spoke-emit room (v % 256) m m1 P g s))
-
-  low : (x y : ℕ) → y < 256 → y % 256 ≡ (256 * x + y) % 256
-  low x y l = omega arith
-
-  high : (v : ℕ) → v / 65536 / 256 ≡ v / 16777216
-  high v = omega arith
-
-  four-twos : (v : ℕ) → two (v % 65536) ++ two (v / 65536) ≡ four v
-  unfolding two four
-  four-twos v =
-      let a : v % 65536 % 256 ≡ v % 256 = omega arith in
-      let x : v / 256 ≡ 256 * (v / 65536) + v % 65536 / 256 = omega arith in
-      let y : v % 65536 / 256 < 256 = omega arith in
-      let b : v % 65536 / 256 % 256 ≡ v / 256 % 256 = low (v / 65536) (v % 65536 / 256) y ∙ ap (λ (i : ℕ). i % 256) (sym x) in
-      let c : v / 65536 / 256 % 256 ≡ v / 16777216 % 256 = ap (λ (i : ℕ). i % 256) (high v) in
-      rw (a, b, c) refl
-
-  pub spoke-four : (v : ℕ) (m m1 : Mach) (P : List ℕ) → m .st .stop ≡ 0 → Spoke room P m m1 → Spoke room (P ++ four v) m (fourOf v m1)
-  unfolding fourOf then
-  spoke-four v m m1 P g s = subst (λ (l : List ℕ). Spoke room l m (twoOf (v / 65536) (twoOf (v % 65536) m1))) (assoc P (two (v % 65536)) (two (v / 65536)) ∙ ap (λ (l : List ℕ). P ++ l) (four-twos v))
-      (spoke-two (v / 65536) m (twoOf (v % 65536) m1) (P ++ two (v % 65536)) g (spoke-two (v % 65536) m m1 P g s))
-
-  -- ---- a problem
-  pub list-spoke : (q : Problem) (m : Mach) (P : List ℕ) → m .st .stop ≡ 0 → Wrote room P (m .st .bytes) (m .st .over) (m .out) → Spoke room (P ++ spellProblem q) m (listOf (q .kind) (q .place) (q .name) m)
-  unfolding listOf then spellProblem
-  list-spoke q m P g w =
-      let a = spoke-emit room 0x60 m m P g (spoke-start room m P w) in
-      let b = spoke-emit room (q .kind) m (emitOf 0x60 m) (P ++ (0x60 ∷ [])) g a in
-      let c = spoke-four (q .place) m (emitOf (q .kind) (emitOf 0x60 m)) ((P ++ (0x60 ∷ [])) ++ (q .kind ∷ [])) g b in
-      let d = spoke-two (q .name) m (fourOf (q .place) (emitOf (q .kind) (emitOf 0x60 m))) (((P ++ (0x60 ∷ [])) ++ (q .kind ∷ [])) ++ four (q .place)) g c in
-      let e : (((P ++ (0x60 ∷ [])) ++ (q .kind ∷ [])) ++ four (q .place)) ++ two (q .name) ≡ P ++ (0x60 ∷ q .kind ∷ (four (q .place) ++ two (q .name))) =
-      assoc ((P ++ (0x60 ∷ [])) ++ (q .kind ∷ [])) (four (q .place)) (two (q .name)) ∙ assoc (P ++ (0x60 ∷ [])) (q .kind ∷ []) (four (q .place) ++ two (q .name)) ∙ assoc P (0x60 ∷ []) (q .kind ∷ (four (q .place) ++ two (q .name))) in
-      subst (λ (l : List ℕ). Spoke room l m (twoOf (q .name) (fourOf (q .place) (emitOf (q .kind) (emitOf 0x60 m))))) e d
-
--- ---- a type
 -- the bytes of T are written where it is what is read
 module _ (room : ℕ) (m : Mach) (g : m .st .stop ≡ 0) (t : ℕ) (T : Ty) (left : ℕ) (q : read (m .arena) (m .st .nodes) t most ≡ done T left) where
   spell-as : (o : Out Page Sheet) → m .st .over ≡ false → put (m .arena) (m .st .nodes) (m .out, m .st .bytes, t) most ≡ o → spellOf t m ≡ laidBy o m

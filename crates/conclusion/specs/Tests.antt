@@ -21,8 +21,8 @@ use Rattle.machine.specs.Machine.{Mach, withSt, leftOf, stoppedOf, listOf}
 use Rattle.finisher.specs.Finisher.{toldBy, settleOf, eachOf}
 use Rattle.simulation.specs.Relation.{Wrote}
 use Rattle.simulation.specs.Stand.{test-yes, test-no}
-use Rattle.simulation.specs.Output.{assoc, Spoke}
-use Rattle.conclusion.specs.Bytes.{nil-right, list-spoke}
+use Rattle.simulation.specs.Steps.{nil-right}
+use Rattle.simulation.specs.Output.{assoc, Spoke, list-spoke}
 
 -- the machine with another budget and another output: all that the finish changes
 abbrev pub ended : ℕ → ℕ → Bool → List ℕ → Mach → Mach

@@ -23,8 +23,9 @@ use Rattle.machine.specs.Forms.{test, then}
 use Rattle.machine.specs.Machine.{Mach, cell, wordOf, emitOf, twoOf, fourOf}
 use Rattle.finisher.specs.Finisher.{most, eachOf, spellOf, entryOf, typeOf, finishOf, writeNamesOf, writeSlotsOf, writeAnswerOf}
 use Rattle.simulation.specs.Relation.{Wrote, Stands, Listed, Filled}
-use Rattle.simulation.specs.Output.{spoken, Spoke, assoc, spoke-emit, spoke-start}
-use Rattle.conclusion.specs.Bytes.{nil-right, spoke-two, spoke-four, spell-spoke}
+use Rattle.simulation.specs.Steps.{nil-right}
+use Rattle.simulation.specs.Output.{spoken, Spoke, assoc, spoke-emit, spoke-start, spoke-two, spoke-four}
+use Rattle.conclusion.specs.Bytes.{spell-spoke}
 use Rattle.conclusion.specs.Tests.{ended, Stood, stood-as}
 use Rattle.conclusion.specs.Finish.{Finished, finish-ends, slots-length}
 use Rattle.conclusion.specs.Reads.{Reads, ask-reads}

@@ -103,8 +103,8 @@ converse = 27
 abbrev pub minus : ℕ
 minus = 28
 
-abbrev pub set : ℕ
-set = 29
+abbrev pub set-of : ℕ
+set-of = 29
 
 abbrev pub power : ℕ
 power = 30
@@ -181,7 +181,7 @@ checkUnaryOf op =
 
 unfoldable pub checkQuantifiedOf : ℕ → ℕ
 checkQuantifiedOf op =
-    test (leb op 1) (λ _. set) (λ _. power)
+    test (leb op 1) (λ _. set-of) (λ _. power)
 
 unfoldable pub checkRelationalOf : ℕ → ℕ
 checkRelationalOf op =

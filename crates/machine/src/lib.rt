@@ -625,8 +625,8 @@ fn note(
     if st.stop != 0 {
         return st;
     }
-    let entry = read(work, size, ENTRIES, 1, name.0, 0);
-    if entry != 0 {
+    let held = read(work, size, ENTRIES, 1, name.0, 0);
+    if held != 0 {
         return st;
     }
     let a = free_identifier(environment, work, size, name, place, st);

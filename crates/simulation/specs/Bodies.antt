@@ -28,12 +28,12 @@ use Rattle.machine.specs.Forms.{test, then}
 use Rattle.machine.specs.Machine.{Mach, withSt, byteAt, wordAt, movedOf, placedOf, gaveOf, boundOf, makeOf}
 use Rattle.machine.specs.Types.{skipOf, freeOf, boundIdentifierOf, meetsOf, ascriptionOf, declareOf}
 use Rattle.machine.specs.Scripts.{partsOf, playOf, checkAtomicOf, checkBinaryOf, checkUnaryOf, checkQuantifiedOf, checkAssociativeOf}
-use Rattle.walker.specs.Walk.{oneBy, twoBy, allBy, quantBy, typedBy, bodyBy}
+use Rattle.walker.specs.Walk.{oneBy, twoBy, allBy, extension-plan, countedBy, quantBy, ascribedBy, typedBy, leafOf, bodyBy}
 use Rattle.simulation.specs.Relation.{Opened, Ended, Runs}
 use Rattle.simulation.specs.Bind.{runs-bind}
 use Rattle.simulation.specs.Stand.{test-yes, standing, moved-eq, placed-eq, gave-eq, runs-if, runs-map, runs-stand}
 use Rattle.simulation.specs.Still.{still-make, still-ascription, still-gave, still-placed, still-meets, still-bound, still-within}
-use Rattle.simulation.specs.StillWalk.{Still, ascribedBy, still-one}
+use Rattle.simulation.specs.StillWalk.{Still, still-one}
 use Rattle.simulation.specs.Steps.{runs-given, runs-after}
 use Rattle.simulation.specs.Nodes.{Came, Gave, Stood, runs-make}
 use Rattle.simulation.specs.Bytes.{byte-of, word-of, drop-past, place-inside}
@@ -94,23 +94,23 @@ module _ (Γ : Env) (env : List ℕ) (cap room : ℕ) where
 -- ---- the rule of each kind, by its first byte
 module _ (E P : Mach → Mach) (s env : List ℕ) (m : Mach) (p : ℕ) (at0 : m .st .at .0 ≡ p) where
   body-01 : byteAt s p 0 ≡ 0x01 → bodyBy E P s env m ≡ freeOf env (wordAt s p 1) p (moved 3 m)
-  unfolding bodyBy then test
+  unfolding bodyBy leafOf then test
   body-01 e = rw (at0, e) refl
 
   body-02 : byteAt s p 0 ≡ 0x02 → bodyBy E P s env m ≡ boundIdentifierOf (wordAt s p 1) p (moved 3 m)
-  unfolding bodyBy then test
+  unfolding bodyBy leafOf then test
   body-02 e = rw (at0, e) refl
 
   body-03 : byteAt s p 0 ≡ 0x03 → bodyBy E P s env m ≡ makeOf 0x41 0 0 (moved 1 m)
-  unfolding bodyBy then test
+  unfolding bodyBy leafOf then test
   body-03 e = rw (at0, e) refl
 
   body-04 : byteAt s p 0 ≡ 0x04 → bodyBy E P s env m ≡ playOf (checkAtomicOf (byteAt s p 1)) (partsOf 0 p 0 p p (m .st)) (moved 2 m)
-  unfolding bodyBy then test
+  unfolding bodyBy leafOf then test
   body-04 e = rw (at0, e) refl
 
-  body-05 : byteAt s p 0 ≡ 0x05 → bodyBy E P s env m ≡ allBy E (record { first = 36; link = 0; last = 30; mode = 1 }) (wordAt s p 1) (moved 3 m)
-  unfolding bodyBy then test
+  body-05 : byteAt s p 0 ≡ 0x05 → bodyBy E P s env m ≡ allBy E extension-plan (wordAt s p 1) (moved 3 m)
+  unfolding bodyBy countedBy then test
   body-05 e = rw (at0, e) refl
 
   body-06 : byteAt s p 0 ≡ 0x06 → bodyBy E P s env m ≡ makeOf 0x40 0 0 (P (moved 1 m))
@@ -134,7 +134,7 @@ module _ (E P : Mach → Mach) (s env : List ℕ) (m : Mach) (p : ℕ) (at0 : m 
   body-0A e = rw (at0, e) refl
 
   body-0B : byteAt s p 0 ≡ 0x0B → bodyBy E P s env m ≡ ascribedBy E s env m
-  unfolding bodyBy ascribedBy then test
+  unfolding bodyBy then test
   body-0B e = rw (at0, e) refl
 
   abbrev Inner : ℕ → ℕ → Mach
@@ -211,8 +211,8 @@ module _ (Γ : Env) (env : List ℕ) (cap room : ℕ) (wide : cap ≤ 32768) (br
     extension-body es rest go e m at0 =
         let q = place-inside s p 0x05 (exprs es % 256 ∷ exprs es / 256 ∷ rest) e in
         let w = word-of s (0x05 ∷ exprs es % 256 ∷ exprs es / 256 ∷ rest) p 1 (exprs es) e refl refl in
-        let F : Mach = allBy E (record { first = 36; link = 0; last = 30; mode = 1 }) (exprs es) (moved 3 m) in
-        runs-if Γ env cap room m (bodyBy E P s env m) F _ B (λ _. B) _ (λ g. body-05 E P s env m p at0 (byte-of s (0x05 ∷ exprs es % 256 ∷ exprs es / 256 ∷ rest) p 0 e) ∙ ap (λ (k : ℕ). allBy E (record { first = 36; link = 0; last = 30; mode = 1 }) k (moved 3 m)) w)
+        let F : Mach = allBy E extension-plan (exprs es) (moved 3 m) in
+        runs-if Γ env cap room m (bodyBy E P s env m) F _ B (λ _. B) _ (λ g. body-05 E P s env m p at0 (byte-of s (0x05 ∷ exprs es % 256 ∷ exprs es / 256 ∷ rest) p 0 e) ∙ ap (λ (k : ℕ). allBy E extension-plan k (moved 3 m)) w)
         (on-from 3 m F p _ B (λ _. B) (λ r v. Gave (p + (3 + size-all es)) r v) at0 (omega arith)
         (λ g a f. runs-map Γ env cap room (moved 3 m) F _ B (λ _. B) _ _ (λ r y. (y .0 ∙ omega arith, y .1)) (runs-extension Γ env cap room wide E stays B es (p + 3) go (moved 3 m) a)))
 

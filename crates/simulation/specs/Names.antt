@@ -28,7 +28,7 @@ use Rattle.simulation.specs.Relation.{Stands, Noted, Listed, Opened, Ent
 use Rattle.simulation.specs.Bind.{runs-bind}
 use Rattle.simulation.specs.Stand.{test-yes, test-no, standing, placed-eq, gave-eq, stands-standing, books-standing, runs-if, runs-map, runs-stand}
 use Rattle.simulation.specs.Still.{still-make, still-remember, still-enrol, still-placed}
-use Rattle.simulation.specs.Steps.{runs-given, runs-after}
+use Rattle.simulation.specs.Steps.{nil-right, runs-given, runs-after}
 use Rattle.simulation.specs.Nodes.{Came, Stood, runs-make, runs-list}
 use Rattle.simulation.specs.Slots.{noted-kept, listed-kept, opened-kept, entered-kept, filled-kept, two-others}
 use Rattle.simulation.specs.Lift.{runs-lift}
@@ -97,10 +97,6 @@ names-more : (Γ : Env) (row : Row) (m : Met) → names Γ (row ++ (m ∷ [])) �
 unfolding names
 names-more Γ [] m = refl
 names-more Γ (k ∷ row) m = ap (askName (Γ (k .name)) k) (names-more Γ row m) ∙ ask-append (Γ (k .name)) k (names Γ row) (askName (Γ (m .name)) m [])
-
-nil-right : {A : Type 0} (l : List A) → l ++ [] ≡ l
-nil-right [] = refl
-nil-right (x ∷ l) = ap (λ (k : List _). x ∷ k) (nil-right l)
 
 names-held : (Γ : Env) (row : Row) (m : Met) (t : Ty) → Γ (m .name) ≡ holds t → names Γ (row ++ (m ∷ [])) ≡ names Γ row
 unfolding askName

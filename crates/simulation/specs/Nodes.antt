@@ -25,7 +25,7 @@ use Rattle.machine.specs.Forms.{then}
 use Rattle.machine.specs.Machine.{Mach, withSt, withArena, stoppedOf, leftOf, grownOf, grownBy, makeOf, judgedBy, settledBy, expectOf, listOf}
 use Rattle.simulation.specs.Relation.{Wrote, Stands, Books, Ended, Runs}
 use Rattle.simulation.specs.Stand.{test-yes, books-as, no-slots}
-use Rattle.simulation.specs.Output.{spoken, Spoke, list-spoke, problems-more}
+use Rattle.simulation.specs.Output.{spoken, Spoke, nameless-problem, list-spoke, problems-more}
 
 -- where a piece ends: at p, having come from f; a result stands as the last reference
 abbrev pub Came : ℕ → ℕ → ℕ → Mach → Type 0
@@ -125,8 +125,8 @@ module _ (Γ : Env) (env : List ℕ) (cap room : ℕ) (wide : cap ≤ 32768) whe
     judged : (v : Verdict) (x : Mach) (ps : List (ℕ × ℕ)) → x .st .stop ≡ 0 → Wrote room (spellProblems (walkProblems ps)) (x .st .bytes) (x .st .over) (x .out) → Spoke room (spellProblems (walkProblems (noted v p ps))) x (judgedBy v p x)
     unfolding judgedBy
     judged unified x ps g w = record { bytes = x .st .bytes; over = x .st .over; out = x .out; is = refl; wrote = subst (λ (qs : List (ℕ × ℕ)). Wrote room (spellProblems (walkProblems qs)) (x .st .bytes) (x .st .over) (x .out)) (sym (noted-unified p ps)) w }
-    judged mismatch x ps g w = subst (λ (l : List ℕ). Spoke room l x (listOf 0 p 0xFFFF x)) (sym (ap (λ (qs : List (ℕ × ℕ)). spellProblems (walkProblems qs)) (noted-mismatch p ps) ∙ problems-more ps 0 p)) (list-spoke room 0 p x (spellProblems (walkProblems ps)) g w)
-    judged circular x ps g w = subst (λ (l : List ℕ). Spoke room l x (listOf 1 p 0xFFFF x)) (sym (ap (λ (qs : List (ℕ × ℕ)). spellProblems (walkProblems qs)) (noted-circular p ps) ∙ problems-more ps 1 p)) (list-spoke room 1 p x (spellProblems (walkProblems ps)) g w)
+    judged mismatch x ps g w = subst (λ (l : List ℕ). Spoke room l x (listOf 0 p 0xFFFF x)) (sym (ap (λ (qs : List (ℕ × ℕ)). spellProblems (walkProblems qs)) (noted-mismatch p ps) ∙ problems-more ps 0 p)) (list-spoke room (nameless-problem 0 p) x (spellProblems (walkProblems ps)) g w)
+    judged circular x ps g w = subst (λ (l : List ℕ). Spoke room l x (listOf 1 p 0xFFFF x)) (sym (ap (λ (qs : List (ℕ × ℕ)). spellProblems (walkProblems qs)) (noted-circular p ps) ∙ problems-more ps 1 p)) (list-spoke room (nameless-problem 1 p) x (spellProblems (walkProblems ps)) g w)
 
     expect-by : (B : List ℕ) (s : Bench) (row : Row) → Stands Γ env cap room m s → Books Γ env cap room m row B → (o : Out Words Answer) → Ends (Kept (s .count) (s .words) (λ σ. σ a ≡ σ b)) (Outcome (s .count) (s .words) (λ σ. σ a ≡ σ b)) o
         → Ended Γ env cap room m (settledBy o p m) (same a b p (s .count) row) B (λ _ v. After v) (on (forgetE o) (λ x. exec cap [] (learn s p x)))
@@ -176,7 +176,7 @@ module _ (Γ : Env) (env : List ℕ) (cap room : ℕ) (wide : cap ≤ 32768) whe
   unfolding problem
   runs-list q p m B = record {
     ends = λ s row h o u l. (
-        let z = list-spoke room q p m (spellProblems (walkProblems (s .problems))) (h .going) (h .wrote) in
+        let z = list-spoke room (nameless-problem q p) m (spellProblems (walkProblems (s .problems))) (h .going) (h .wrote) in
         let y : Mach = spoken (z .bytes) (z .over) (z .out) m in
         let run = exec-listed cap s [] q p (m .st .budget) ∙ exec-nil cap (complain s q p) (m .st .budget) in
         let c = complain-count s q p in

@@ -17,6 +17,7 @@ use Rattle.machine.specs.Forms.{then}
 use Rattle.machine.specs.Machine.{Mach, withSt, bytesOf, overOf, emitOf, twoOf, fourOf, listOf}
 use Rattle.simulation.specs.Relation.{Wrote}
 use Rattle.simulation.specs.Stand.{test-yes, test-no}
+use Rattle.simulation.specs.Steps.{nil-right}
 
 -- the machine with another output
 abbrev pub spoken : ℕ → Bool → List ℕ → Mach → Mach
@@ -117,7 +118,8 @@ module _ (room : ℕ) where
   pub spoke-start : (m : Mach) (P : List ℕ) → Wrote room P (m .st .bytes) (m .st .over) (m .out) → Spoke room P m m
   spoke-start m P w = record { bytes = m .st .bytes; over = m .st .over; out = m .out; is = refl; wrote = w }
 
-  spoke-two : (v : ℕ) (m m1 : Mach) (P : List ℕ) → m .st .stop ≡ 0 → Spoke room P m m1 → Spoke room (P ++ two v) m (twoOf v m1)
+  -- ---- numbers
+  pub spoke-two : (v : ℕ) (m m1 : Mach) (P : List ℕ) → m .st .stop ≡ 0 → Spoke room P m m1 → Spoke room (P ++ two v) m (twoOf v m1)
   unfolding twoOf then two
   spoke-two v m m1 P g s = subst (λ (l : List ℕ). Spoke room l m (emitOf (v / 256 % 256) (emitOf (v % 256) m1))) (assoc P (v % 256 ∷ []) (v / 256 % 256 ∷ []))
       (spoke-emit (v / 256 % 256) m (emitOf (v % 256) m1) (P ++ (v % 256 ∷ [])) g (spoke-emit (v % 256) m m1 P g s))
@@ -138,30 +140,27 @@ module _ (room : ℕ) where
       let c : v / 65536 / 256 % 256 ≡ v / 16777216 % 256 = ap (λ (i : ℕ). i % 256) (high v) in
       rw (a, b, c) refl
 
-  spoke-four : (v : ℕ) (m m1 : Mach) (P : List ℕ) → m .st .stop ≡ 0 → Spoke room P m m1 → Spoke room (P ++ four v) m (fourOf v m1)
+  pub spoke-four : (v : ℕ) (m m1 : Mach) (P : List ℕ) → m .st .stop ≡ 0 → Spoke room P m m1 → Spoke room (P ++ four v) m (fourOf v m1)
   unfolding fourOf then
   spoke-four v m m1 P g s = subst (λ (l : List ℕ). Spoke room l m (twoOf (v / 65536) (twoOf (v % 65536) m1))) (assoc P (two (v % 65536)) (two (v / 65536)) ∙ ap (λ (l : List ℕ). P ++ l) (four-twos v))
       (spoke-two (v / 65536) m (twoOf (v % 65536) m1) (P ++ two (v % 65536)) g (spoke-two (v % 65536) m m1 P g s))
 
-  pub list-spoke : (q p : ℕ) (m : Mach) (P : List ℕ) → m .st .stop ≡ 0 → Wrote room P (m .st .bytes) (m .st .over) (m .out) → Spoke room (P ++ spellProblem (nameless-problem q p)) m (listOf q p 0xFFFF m)
+  -- ---- a problem
+  pub list-spoke : (q : Problem) (m : Mach) (P : List ℕ) → m .st .stop ≡ 0 → Wrote room P (m .st .bytes) (m .st .over) (m .out) → Spoke room (P ++ spellProblem q) m (listOf (q .kind) (q .place) (q .name) m)
   unfolding listOf then spellProblem
-  list-spoke q p m P g w =
+  list-spoke q m P g w =
       let a = spoke-emit 0x60 m m P g (spoke-start m P w) in
-      let b = spoke-emit q m (emitOf 0x60 m) (P ++ (0x60 ∷ [])) g a in
-      let c = spoke-four p m (emitOf q (emitOf 0x60 m)) ((P ++ (0x60 ∷ [])) ++ (q ∷ [])) g b in
-      let d = spoke-two 0xFFFF m (fourOf p (emitOf q (emitOf 0x60 m))) (((P ++ (0x60 ∷ [])) ++ (q ∷ [])) ++ four p) g c in
-      let e : (((P ++ (0x60 ∷ [])) ++ (q ∷ [])) ++ four p) ++ two 0xFFFF ≡ P ++ (0x60 ∷ q ∷ (four p ++ two 0xFFFF)) =
-      assoc ((P ++ (0x60 ∷ [])) ++ (q ∷ [])) (four p) (two 0xFFFF) ∙ assoc (P ++ (0x60 ∷ [])) (q ∷ []) (four p ++ two 0xFFFF) ∙ assoc P (0x60 ∷ []) (q ∷ (four p ++ two 0xFFFF)) in
-      subst (λ (l : List ℕ). Spoke room l m (twoOf 0xFFFF (fourOf p (emitOf q (emitOf 0x60 m))))) e d
+      let b = spoke-emit (q .kind) m (emitOf 0x60 m) (P ++ (0x60 ∷ [])) g a in
+      let c = spoke-four (q .place) m (emitOf (q .kind) (emitOf 0x60 m)) ((P ++ (0x60 ∷ [])) ++ (q .kind ∷ [])) g b in
+      let d = spoke-two (q .name) m (fourOf (q .place) (emitOf (q .kind) (emitOf 0x60 m))) (((P ++ (0x60 ∷ [])) ++ (q .kind ∷ [])) ++ four (q .place)) g c in
+      let e : (((P ++ (0x60 ∷ [])) ++ (q .kind ∷ [])) ++ four (q .place)) ++ two (q .name) ≡ P ++ (0x60 ∷ q .kind ∷ (four (q .place) ++ two (q .name))) =
+      assoc ((P ++ (0x60 ∷ [])) ++ (q .kind ∷ [])) (four (q .place)) (two (q .name)) ∙ assoc (P ++ (0x60 ∷ [])) (q .kind ∷ []) (four (q .place) ++ two (q .name)) ∙ assoc P (0x60 ∷ []) (q .kind ∷ (four (q .place) ++ two (q .name))) in
+      subst (λ (l : List ℕ). Spoke room l m (twoOf (q .name) (fourOf (q .place) (emitOf (q .kind) (emitOf 0x60 m))))) e d
 
 -- the problems of a bench with one more
 pub problems-more : (ps : List (ℕ × ℕ)) (q p : ℕ) → spellProblems (walkProblems (ps ++ ((q, p) ∷ []))) ≡ spellProblems (walkProblems ps) ++ spellProblem (nameless-problem q p)
 unfolding spellProblems walkProblems
 problems-more [] q p = nil-right (spellProblem (nameless-problem q p))
-  where
-    nil-right : (l : List ℕ) → l ++ [] ≡ l
-    nil-right [] = refl
-    nil-right (x ∷ l) = ap (λ (k : List ℕ). x ∷ k) (nil-right l)
 problems-more (z ∷ ps) q p =
     ap (λ (l : List ℕ). spellProblem (nameless-problem (z .0) (z .1)) ++ l) (problems-more ps q p)
     ∙ sym (assoc (spellProblem (nameless-problem (z .0) (z .1))) (spellProblems (walkProblems ps)) (spellProblem (nameless-problem q p)))

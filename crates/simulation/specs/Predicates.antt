@@ -19,7 +19,7 @@ use Rattle.machine.specs.Forms.{test, then}
 use Rattle.machine.specs.Machine.{Mach, withSt, byteAt, wordAt, boundOf, listOf}
 use Rattle.machine.specs.Types.{declareOf, timesOf}
 use Rattle.machine.specs.Scripts.{checkRelationalOf}
-use Rattle.walker.specs.Walk.{oneBy, twoBy, allBy, predBodyBy}
+use Rattle.walker.specs.Walk.{oneBy, twoBy, allBy, multiple-plan, application-plan, countedBy, predQuantBy, predBodyBy}
 use Rattle.simulation.specs.Relation.{Runs}
 use Rattle.simulation.specs.Bind.{runs-bind}
 use Rattle.simulation.specs.Stand.{standing, runs-if, runs-map, runs-stand}
@@ -61,19 +61,19 @@ module _ (E P : Mach → Mach) (s env : List ℕ) (m : Mach) (p : ℕ) (at0 : m 
   body-25 e = rw (at0, e) refl
 
   body-26 : byteAt s p 0 ≡ 0x26 → predBodyBy E P s env m ≡ withSt (boundOf (m .st .bound) (P (declareOf s env (byteAt s p 1) (moved 2 m)) .st)) (P (declareOf s env (byteAt s p 1) (moved 2 m)))
-  unfolding predBodyBy then test
+  unfolding predBodyBy predQuantBy then test
   body-26 e = rw (at0, e) refl
 
   body-27 : byteAt s p 0 ≡ 0x27 → predBodyBy E P s env m ≡ oneBy E 35 p (moved 1 m)
   unfolding predBodyBy then test
   body-27 e = rw (at0, e) refl
 
-  body-28 : byteAt s p 0 ≡ 0x28 → predBodyBy E P s env m ≡ allBy E (record { first = 5; link = 0; last = 0; mode = 1 }) (wordAt s p 1) (moved 3 m)
-  unfolding predBodyBy then test
+  body-28 : byteAt s p 0 ≡ 0x28 → predBodyBy E P s env m ≡ allBy E multiple-plan (wordAt s p 1) (moved 3 m)
+  unfolding predBodyBy countedBy then test
   body-28 e = rw (at0, e) refl
 
-  body-29 : byteAt s p 0 ≡ 0x29 → predBodyBy E P s env m ≡ listOf 5 p 0xFFFF (allBy E (record { first = 0; link = 0; last = 0; mode = 0 }) (wordAt s p 1) (moved 3 m))
-  unfolding predBodyBy then test
+  body-29 : byteAt s p 0 ≡ 0x29 → predBodyBy E P s env m ≡ listOf 5 p 0xFFFF (allBy E application-plan (wordAt s p 1) (moved 3 m))
+  unfolding predBodyBy countedBy then test
   body-29 e = rw (at0, e) refl
 
 -- a piece whose result is let go, otherwise written
@@ -220,8 +220,8 @@ module _ (Γ : Env) (env : List ℕ) (cap room : ℕ) (wide : cap ≤ 32768) (br
     multiple-body es rest go e m at0 =
         let q = place-inside s p 0x28 (exprs es % 256 ∷ exprs es / 256 ∷ rest) e in
         let w = word-of s (0x28 ∷ exprs es % 256 ∷ exprs es / 256 ∷ rest) p 1 (exprs es) e refl refl in
-        let F : Mach = allBy E (record { first = 5; link = 0; last = 0; mode = 1 }) (exprs es) (moved 3 m) in
-        runs-if Γ env cap room m (predBodyBy E P s env m) F _ B (λ _. B) _ (λ g. body-28 E P s env m p at0 (byte-of s (0x28 ∷ exprs es % 256 ∷ exprs es / 256 ∷ rest) p 0 e) ∙ ap (λ (k : ℕ). allBy E (record { first = 5; link = 0; last = 0; mode = 1 }) k (moved 3 m)) w)
+        let F : Mach = allBy E multiple-plan (exprs es) (moved 3 m) in
+        runs-if Γ env cap room m (predBodyBy E P s env m) F _ B (λ _. B) _ (λ g. body-28 E P s env m p at0 (byte-of s (0x28 ∷ exprs es % 256 ∷ exprs es / 256 ∷ rest) p 0 e) ∙ ap (λ (k : ℕ). allBy E multiple-plan k (moved 3 m)) w)
         (on-from Γ env cap room wide brief s short most few 3 m F p _ B (λ _. B) (λ _ v. v .st .at .0 ≡ p + (3 + size-all es)) at0 (omega arith)
         (λ g a1 f. runs-map Γ env cap room (moved 3 m) F _ B (λ _. B) _ _ (λ _ y. y ∙ omega arith) (runs-multiple Γ env cap room wide E stays B es (p + 3) go (moved 3 m) a1)))
 
@@ -230,7 +230,7 @@ module _ (Γ : Env) (env : List ℕ) (cap room : ℕ) (wide : cap ≤ 32768) (br
     application-body es rest go e m at0 =
         let q = place-inside s p 0x29 (exprs es % 256 ∷ exprs es / 256 ∷ rest) e in
         let w = word-of s (0x29 ∷ exprs es % 256 ∷ exprs es / 256 ∷ rest) p 1 (exprs es) e refl refl in
-        let F : Mach = listOf 5 p 0xFFFF (allBy E (record { first = 0; link = 0; last = 0; mode = 0 }) (exprs es) (moved 3 m)) in
-        runs-if Γ env cap room m (predBodyBy E P s env m) F _ B (λ _. B) _ (λ g. body-29 E P s env m p at0 (byte-of s (0x29 ∷ exprs es % 256 ∷ exprs es / 256 ∷ rest) p 0 e) ∙ ap (λ (k : ℕ). listOf 5 p 0xFFFF (allBy E (record { first = 0; link = 0; last = 0; mode = 0 }) k (moved 3 m))) w)
+        let F : Mach = listOf 5 p 0xFFFF (allBy E application-plan (exprs es) (moved 3 m)) in
+        runs-if Γ env cap room m (predBodyBy E P s env m) F _ B (λ _. B) _ (λ g. body-29 E P s env m p at0 (byte-of s (0x29 ∷ exprs es % 256 ∷ exprs es / 256 ∷ rest) p 0 e) ∙ ap (λ (k : ℕ). listOf 5 p 0xFFFF (allBy E application-plan k (moved 3 m))) w)
         (on-from Γ env cap room wide brief s short most few 3 m F p _ B (λ _. B) (λ _ v. v .st .at .0 ≡ p + (3 + size-all es)) at0 (omega arith)
         (λ g a1 f. runs-map Γ env cap room (moved 3 m) F _ B (λ _. B) _ _ (λ _ y. y ∙ omega arith) (runs-application Γ env cap room wide E stays B es (p + 3) go (moved 3 m) a1 p)))

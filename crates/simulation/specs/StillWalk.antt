@@ -3,40 +3,42 @@
 use Prim.Native.Nat.{ℕ, zero, suc}
 use mathlib.Core.Path.{_≡_, refl, _∙_, ap}
 use mathlib.Core.List.{List}
-use lib.Dec.{eqb}
+use lib.Dec.{eqb, ltb}
 use Rattle.types.specs.declared.NodeRef.{NodeRef}
 use Rattle.machine.specs.declared.State.{State}
 use Rattle.machine.specs.declared.Plan.{Plan}
 use Rattle.machine.specs.Forms.{test, then}
 use Rattle.machine.specs.Machine.{Mach, withSt, byteAt, wordAt, stoppedOf, movedOf, placedOf, gaveOf, boundOf, listOf, makeOf, leaveOf}
 use Rattle.machine.specs.Types.{skipOf, freeOf, boundIdentifierOf, meetsOf, ascriptionOf, declareOf, timesOf}
-use Rattle.machine.specs.Scripts.{nothing, empty-set, finite, unknown, power, checkAtomicOf, checkBinaryOf, checkUnaryOf, checkQuantifiedOf, checkRelationalOf, checkAssociativeOf, partsOf, playOf}
-use Rattle.walker.specs.Walk.{meetOf, nextOf, oneBy, twoBy, childBy, childrenBy, allBy, quantBy, typedBy, bodyBy, predBodyBy, halts, enteredBy, exprBy, paidBy, exprOf, predOf}
+use Rattle.machine.specs.Scripts.{finite, checkAtomicOf, checkBinaryOf, checkUnaryOf, checkQuantifiedOf, checkRelationalOf, checkAssociativeOf, partsOf, playOf}
+use Rattle.walker.specs.Walk.{meetOf, nextOf, oneBy, twoBy, childBy, childrenBy, allBy, countedBy, quantBy, predQuantBy, ascribedBy, typedBy, leafOf, bodyBy, predBodyBy, extension-plan, multiple-plan, application-plan, halts, enteredBy, exprBy, paidBy, exprOf, predOf}
 use Rattle.simulation.specs.Still.{test-both, Halted, still-stopped, still-moved, still-placed, still-gave, still-bound, still-paid, still-enter, still-skip, still-within, still-list, still-make, still-expect, still-leave, still-free, still-identifier, still-meets, still-ascription, still-declare, still-times, still-play}
 
 abbrev pub Still : (Mach → Mach) → Type 0
 Still E = (m : Mach) → Halted m → E m ≡ m
 
--- 0B, as the walk has it among its kinds: the expression, then its ascription
-unfoldable pub ascribedBy : (Mach → Mach) → List ℕ → List ℕ → Mach → Mach
-ascribedBy E s env m =
-    then (movedOf 1 (m .st)) λ v.
-    then (E (withSt v m)) λ a.
-    then (ascriptionOf s env (a .st .last .0) (m .st .at .0) a) λ b.
-    then (gaveOf (a .st .last .0) (b .st)) λ w. withSt w b
-
--- 26 likewise: declarations and a predicate
-unfoldable pub quantifiedBy : (Mach → Mach) → List ℕ → List ℕ → Mach → Mach
-quantifiedBy P s env m =
-    then (byteAt s (m .st .at .0) 1) λ count.
-    then (movedOf 2 (m .st)) λ v.
-    then (declareOf s env count (withSt v m)) λ a.
-    then (P a) λ b.
-    then (boundOf (m .st .bound) (b .st)) λ w. withSt w b
-
 pub still-meet : (mode x y p : ℕ) (m : Mach) → Halted m → meetOf mode x y p m ≡ m
 unfolding meetOf
 still-meet mode x y p m h = test-both (eqb mode 0) _ _ m refl (still-expect x y p m h)
+
+-- a move, and what follows it
+moves : (n : ℕ) (F : Mach → Mach) (m : Mach) → Halted m → F m ≡ m → F (withSt (movedOf n (m .st)) m) ≡ m
+moves n F m h f = ap F (still-within (movedOf n) m (still-moved n (m .st) h)) ∙ f
+
+still-halts : (m : Mach) → Halted m → halts m ≡ m
+unfolding then
+still-halts m h = still-within (stoppedOf 2) m (still-stopped 2 (m .st) h)
+
+pub still-leaf : (k : ℕ) (s env : List ℕ) (m : Mach) → Halted m → leafOf k s env m ≡ m
+unfolding leafOf then
+still-leaf k s env m h =
+    let a : ℕ = m .st .at .0 in
+    let w : ℕ = wordAt s a 1 in
+    let o : ℕ = byteAt s a 1 in
+    test-both (eqb k 0x01) _ _ m (moves 3 (freeOf env w a) m h (still-free env w a m h))
+    (test-both (eqb k 0x02) _ _ m (moves 3 (boundIdentifierOf w a) m h (still-identifier w a m h))
+    (test-both (eqb k 0x03) _ _ m (moves 1 (makeOf 0x41 0 0) m h (still-make 0x41 0 0 m h))
+    (test-both (eqb k 0x04) _ _ m (moves 2 (playOf (checkAtomicOf o) (partsOf 0 a 0 a a (m .st))) m h (still-play (checkAtomicOf o) (partsOf 0 a 0 a a (m .st)) m h)) (still-halts m h))))
 
 module _ (E : Mach → Mach) (e : Still E) where
   pub still-one : (n p : ℕ) (m : Mach) → Halted m → oneBy E n p m ≡ m
@@ -71,6 +73,10 @@ module _ (E : Mach → Mach) (e : Still E) where
       ∙ ap (λ (b : Mach). playOf (plan .last) (partsOf (m .st .last .0) k (b .st .last .0) k k (b .st)) b) (still-children plan n (m .st .last) m h)
       ∙ still-play (plan .last) (partsOf (m .st .last .0) k (m .st .last .0) k k (m .st)) m h
 
+  pub still-counted : (s : List ℕ) (plan : Plan) (m : Mach) → Halted m → countedBy E s plan m ≡ m
+  unfolding countedBy then
+  still-counted s plan m h = moves 3 (allBy E plan (wordAt s (m .st .at .0) 1)) m h (still-all plan (wordAt s (m .st .at .0) 1) m h)
+
   pub still-ascribed : (s env : List ℕ) (m : Mach) → Halted m → ascribedBy E s env m ≡ m
   unfolding ascribedBy then
   still-ascribed s env m h =
@@ -104,9 +110,9 @@ module _ (E : Mach → Mach) (e : Still E) where
         ∙ ap C (still-one n (m .st .at .0) m h)
         ∙ still-within (boundOf (m .st .bound)) m (still-bound (m .st .bound) (m .st) h)
 
-    pub still-quantified : (m : Mach) → Halted m → quantifiedBy P s env m ≡ m
-    unfolding quantifiedBy then
-    still-quantified m h =
+    pub still-pquant : (m : Mach) → Halted m → predQuantBy P s env m ≡ m
+    unfolding predQuantBy then
+    still-pquant m h =
         let k : ℕ = byteAt s (m .st .at .0) 1 in
         let C : Mach → Mach = (λ (c : Mach). withSt (boundOf (m .st .bound) (c .st)) c) in
         ap (λ (x : Mach). C (P (declareOf s env k x))) (still-within (movedOf 2) m (still-moved 2 (m .st) h))
@@ -114,31 +120,23 @@ module _ (E : Mach → Mach) (e : Still E) where
         ∙ ap C (q m h)
         ∙ still-within (boundOf (m .st .bound)) m (still-bound (m .st .bound) (m .st) h)
 
-    moves : (n : ℕ) (F : Mach → Mach) (m : Mach) → Halted m → F m ≡ m → F (withSt (movedOf n (m .st)) m) ≡ m
-    moves n F m h f = ap F (still-within (movedOf n) m (still-moved n (m .st) h)) ∙ f
-
     pub still-body : (m : Mach) → Halted m → bodyBy E P s env m ≡ m
-    unfolding bodyBy then ascribedBy
+    unfolding bodyBy then
     still-body m h =
         let k : ℕ = byteAt s (m .st .at .0) 0 in
         let a : ℕ = m .st .at .0 in
-        let w : ℕ = wordAt s a 1 in
         let o : ℕ = byteAt s a 1 in
-        test-both (eqb k 0x01) _ _ m (moves 3 (freeOf env w a) m h (still-free env w a m h))
-        (test-both (eqb k 0x02) _ _ m (moves 3 (boundIdentifierOf w a) m h (still-identifier w a m h))
-        (test-both (eqb k 0x03) _ _ m (moves 1 (makeOf 0x41 0 0) m h (still-make 0x41 0 0 m h))
-        (test-both (eqb k 0x04) _ _ m (moves 2 (playOf (checkAtomicOf o) (partsOf 0 a 0 a a (m .st))) m h (still-play (checkAtomicOf o) (partsOf 0 a 0 a a (m .st)) m h))
-        (test-both (eqb k 0x05) _ _ m (moves 3 (allBy E (record { first = unknown; link = nothing; last = power; mode = 1 }) w) m h (still-all (record { first = unknown; link = nothing; last = power; mode = 1 }) w m h))
+        test-both (ltb k 0x05) _ _ m (still-leaf k s env m h)
+        (test-both (eqb k 0x05) _ _ m (still-counted s extension-plan m h)
         (test-both (eqb k 0x06) _ _ m (moves 1 (λ x. makeOf 0x40 0 0 (P x)) m h (ap (makeOf 0x40 0 0) (q m h) ∙ still-make 0x40 0 0 m h))
         (test-both (eqb k 0x07) _ _ m (moves 2 (twoBy E (checkBinaryOf o) a) m h (still-two (checkBinaryOf o) a m h))
         (test-both (eqb k 0x08) _ _ m (moves 4 (allBy E (checkAssociativeOf o) (wordAt s a 2)) m h (still-all (checkAssociativeOf o) (wordAt s a 2) m h))
         (test-both (eqb k 0x09) _ _ m (moves 2 (oneBy E (checkUnaryOf o) a) m h (still-one (checkUnaryOf o) a m h))
         (test-both (eqb k 0x0A) _ _ m (still-quant m h)
-        (test-both (eqb k 0x0B) _ _ m (still-ascribed s env m h)
-        (still-within (stoppedOf 2) m (still-stopped 2 (m .st) h))))))))))))
+        (test-both (eqb k 0x0B) _ _ m (still-ascribed s env m h) (still-halts m h))))))))
 
     pub still-pbody : (m : Mach) → Halted m → predBodyBy E P s env m ≡ m
-    unfolding predBodyBy then quantifiedBy
+    unfolding predBodyBy then
     still-pbody m h =
         let k : ℕ = byteAt s (m .st .at .0) 0 in
         let a : ℕ = m .st .at .0 in
@@ -150,21 +148,15 @@ module _ (E : Mach → Mach) (e : Still E) where
         (test-both (eqb k 0x23) _ _ m (moves 1 (timesOf P 2) m h (still-times P m (q m h) 2))
         (test-both (eqb k 0x24) _ _ m (moves 3 (timesOf P w) m h (still-times P m (q m h) w))
         (test-both (eqb k 0x25) _ _ m (moves 1 P m h (q m h))
-        (test-both (eqb k 0x26) _ _ m (still-quantified m h)
+        (test-both (eqb k 0x26) _ _ m (still-pquant m h)
         (test-both (eqb k 0x27) _ _ m (moves 1 (oneBy E finite a) m h (still-one finite a m h))
-        (test-both (eqb k 0x28) _ _ m (moves 3 (allBy E (record { first = empty-set; link = nothing; last = nothing; mode = 1 }) w) m h (still-all (record { first = empty-set; link = nothing; last = nothing; mode = 1 }) w m h))
-        (test-both (eqb k 0x29) _ _ m (moves 3 (λ x. listOf 5 a 0xFFFF (allBy E (record { first = nothing; link = nothing; last = nothing; mode = 0 }) w x)) m h
-        (ap (listOf 5 a 0xFFFF) (still-all (record { first = nothing; link = nothing; last = nothing; mode = 0 }) w m h) ∙ still-list 5 a 0xFFFF m h))
-        (still-within (stoppedOf 2) m (still-stopped 2 (m .st) h)))))))))))
+        (test-both (eqb k 0x28) _ _ m (still-counted s multiple-plan m h)
+        (test-both (eqb k 0x29) _ _ m (ap (listOf 5 a 0xFFFF) (still-counted s application-plan m h) ∙ still-list 5 a 0xFFFF m h) (still-halts m h))))))))))
 
 pub still-paidby : (f : State → Mach) (m : Mach) → Halted m → f (m .st) ≡ m → paidBy f m ≡ m
 unfolding paidBy enteredBy then
 still-paidby f m h e =
     ap (λ (v : State). test (eqb (v .stop) 0) (λ _. f v) (λ _. withSt v m)) (still-paid (m .st) h) ∙ test-both (eqb (m .st .stop) 0) _ _ m e refl
-
-still-halts : (m : Mach) → Halted m → halts m ≡ m
-unfolding then
-still-halts m h = still-within (stoppedOf 2) m (still-stopped 2 (m .st) h)
 
 pub still-exprby : (X : Mach → Mach) (f : State → Mach) (s : List ℕ) (m : Mach) → Halted m → X m ≡ m → f (m .st) ≡ m → exprBy X f s m ≡ m
 unfolding exprBy enteredBy then

@@ -46,6 +46,22 @@ allBy E plan n m =
     then (partsOf (a .st .last .0) (m .st .at .0) (b .st .last .0) (m .st .at .0) (m .st .at .0) (b .st)) λ q.
     playOf (plan .last) q b
 
+-- as many children as the record says
+unfoldable pub countedBy : (Mach → Mach) → List ℕ → Plan → Mach → Mach
+countedBy E s plan m =
+    then (wordAt s (m .st .at .0) 1) λ n.
+    then (movedOf 3 (m .st)) λ v. allBy E plan n (withSt v m)
+
+-- the plans of 05, 28 and 29
+abbrev pub extension-plan : Plan
+extension-plan = record { first = unknown; link = nothing; last = power; mode = 1 }
+
+abbrev pub multiple-plan : Plan
+multiple-plan = record { first = empty-set; link = nothing; last = nothing; mode = 1 }
+
+abbrev pub application-plan : Plan
+application-plan = record { first = nothing; link = nothing; last = nothing; mode = 0 }
+
 -- ---- one or two expressions, and a script
 unfoldable pub oneBy : (Mach → Mach) → ℕ → ℕ → Mach → Mach
 oneBy E n p m =
@@ -72,6 +88,23 @@ quantBy E P s env m =
     then (oneBy E n (m .st .at .0) b) λ c.
     then (boundOf (m .st .bound) (c .st)) λ w. withSt w c
 
+-- ---- 26
+unfoldable pub predQuantBy : (Mach → Mach) → List ℕ → List ℕ → Mach → Mach
+predQuantBy P s env m =
+    then (byteAt s (m .st .at .0) 1) λ count.
+    then (movedOf 2 (m .st)) λ v.
+    then (declareOf s env count (withSt v m)) λ a.
+    then (P a) λ b.
+    then (boundOf (m .st .bound) (b .st)) λ w. withSt w b
+
+-- ---- 0B: the expression, then its ascription
+unfoldable pub ascribedBy : (Mach → Mach) → List ℕ → List ℕ → Mach → Mach
+ascribedBy E s env m =
+    then (movedOf 1 (m .st)) λ v.
+    then (E (withSt v m)) λ a.
+    then (ascriptionOf s env (a .st .last .0) (m .st .at .0) a) λ b.
+    then (gaveOf (a .st .last .0) (b .st)) λ w. withSt w b
+
 -- ---- 0C, once it is paid: past the type, the expression, and back to the type
 unfoldable pub typedBy : (Mach → Mach) → List ℕ → Mach → Mach
 typedBy E s m =
@@ -83,10 +116,9 @@ typedBy E s m =
     then (placedOf (v .st .at .0) (d .st)) λ e.
     then (gaveOf (v .st .last .0) e) λ g. withSt g d
 
--- ---- expressions by kind
-unfoldable pub bodyBy : (Mach → Mach) → (Mach → Mach) → List ℕ → List ℕ → Mach → Mach
-bodyBy E P s env m =
-    then (byteAt s (m .st .at .0) 0) λ k.
+-- ---- 01 to 04: expressions with nothing below them, by kind
+unfoldable pub leafOf : ℕ → List ℕ → List ℕ → Mach → Mach
+leafOf k s env m =
     test (eqb k 0x01) (λ _. then (wordAt s (m .st .at .0) 1) λ x. then (movedOf 3 (m .st)) λ v. freeOf env x (m .st .at .0) (withSt v m))
     (λ _. test (eqb k 0x02) (λ _. then (wordAt s (m .st .at .0) 1) λ i. then (movedOf 3 (m .st)) λ v. boundIdentifierOf i (m .st .at .0) (withSt v m))
     (λ _. test (eqb k 0x03) (λ _. then (movedOf 1 (m .st)) λ v. makeOf 0x41 0 0 (withSt v m))
@@ -95,8 +127,14 @@ bodyBy E P s env m =
     then (checkAtomicOf op) λ n.
     then (partsOf 0 (m .st .at .0) 0 (m .st .at .0) (m .st .at .0) (m .st)) λ p.
     then (movedOf 2 (m .st)) λ v. playOf n p (withSt v m))
-    (λ _. test (eqb k 0x05)
-    (λ _. then (wordAt s (m .st .at .0) 1) λ n. then (movedOf 3 (m .st)) λ v. allBy E (record { first = unknown; link = nothing; last = power; mode = 1 }) n (withSt v m))
+    (λ _. halts m))))
+
+-- ---- expressions by kind
+unfoldable pub bodyBy : (Mach → Mach) → (Mach → Mach) → List ℕ → List ℕ → Mach → Mach
+bodyBy E P s env m =
+    then (byteAt s (m .st .at .0) 0) λ k.
+    test (ltb k 0x05) (λ _. leafOf k s env m)
+    (λ _. test (eqb k 0x05) (λ _. countedBy E s extension-plan m)
     (λ _. test (eqb k 0x06) (λ _. then (movedOf 1 (m .st)) λ v. then (P (withSt v m)) λ a. makeOf 0x40 0 0 a)
     (λ _. test (eqb k 0x07)
     (λ _. then (byteAt s (m .st .at .0) 1) λ op. then (checkBinaryOf op) λ n. then (movedOf 2 (m .st)) λ v. twoBy E n (m .st .at .0) (withSt v m))
@@ -105,12 +143,8 @@ bodyBy E P s env m =
     (λ _. test (eqb k 0x09)
     (λ _. then (byteAt s (m .st .at .0) 1) λ op. then (checkUnaryOf op) λ n. then (movedOf 2 (m .st)) λ v. oneBy E n (m .st .at .0) (withSt v m))
     (λ _. test (eqb k 0x0A) (λ _. quantBy E P s env m)
-    (λ _. test (eqb k 0x0B)
-    (λ _. then (movedOf 1 (m .st)) λ v.
-    then (E (withSt v m)) λ a.
-    then (ascriptionOf s env (a .st .last .0) (m .st .at .0) a) λ b.
-    then (gaveOf (a .st .last .0) (b .st)) λ w. withSt w b)
-    (λ _. halts m)))))))))))
+    (λ _. test (eqb k 0x0B) (λ _. ascribedBy E s env m)
+    (λ _. halts m))))))))
 
 -- ---- predicates by kind
 unfoldable pub predBodyBy : (Mach → Mach) → (Mach → Mach) → List ℕ → List ℕ → Mach → Mach
@@ -123,20 +157,10 @@ predBodyBy E P s env m =
     (λ _. test (eqb k 0x23) (λ _. then (movedOf 1 (m .st)) λ v. timesOf P 2 (withSt v m))
     (λ _. test (eqb k 0x24) (λ _. then (wordAt s (m .st .at .0) 1) λ n. then (movedOf 3 (m .st)) λ v. timesOf P n (withSt v m))
     (λ _. test (eqb k 0x25) (λ _. then (movedOf 1 (m .st)) λ v. P (withSt v m))
-    (λ _. test (eqb k 0x26)
-    (λ _. then (byteAt s (m .st .at .0) 1) λ count.
-    then (movedOf 2 (m .st)) λ v.
-    then (declareOf s env count (withSt v m)) λ a.
-    then (P a) λ b.
-    then (boundOf (m .st .bound) (b .st)) λ w. withSt w b)
+    (λ _. test (eqb k 0x26) (λ _. predQuantBy P s env m)
     (λ _. test (eqb k 0x27) (λ _. then (movedOf 1 (m .st)) λ v. oneBy E finite (m .st .at .0) (withSt v m))
-    (λ _. test (eqb k 0x28)
-    (λ _. then (wordAt s (m .st .at .0) 1) λ n. then (movedOf 3 (m .st)) λ v. allBy E (record { first = empty-set; link = nothing; last = nothing; mode = 1 }) n (withSt v m))
-    (λ _. test (eqb k 0x29)
-    (λ _. then (wordAt s (m .st .at .0) 1) λ n.
-    then (movedOf 3 (m .st)) λ v.
-    then (allBy E (record { first = nothing; link = nothing; last = nothing; mode = 0 }) n (withSt v m)) λ a.
-    listOf 5 (m .st .at .0) 0xFFFF a)
+    (λ _. test (eqb k 0x28) (λ _. countedBy E s multiple-plan m)
+    (λ _. test (eqb k 0x29) (λ _. then (countedBy E s application-plan m) λ a. listOf 5 (m .st .at .0) 0xFFFF a)
     (λ _. halts m))))))))))
 
 -- ---- a record entered, where f goes on once it is paid
@@ -187,6 +211,9 @@ twoOf l s env n p m = twoBy (exprOf l s env) n p m
 abbrev pub allOf : ℕ → List ℕ → List ℕ → Plan → ℕ → Mach → Mach
 allOf l s env plan n m = allBy (exprOf l s env) plan n m
 
+abbrev pub countedOf : ℕ → List ℕ → List ℕ → Plan → Mach → Mach
+countedOf l s env plan m = countedBy (exprOf l s env) s plan m
+
 abbrev pub childrenOf : ℕ → List ℕ → List ℕ → Plan → ℕ → NodeRef → Mach → Mach
 childrenOf l s env plan n x m = childrenBy (exprOf l s env) plan n x m
 
@@ -195,3 +222,9 @@ predsOf l s env n m = timesOf (predOf l s env) n m
 
 abbrev pub quantOf : ℕ → List ℕ → List ℕ → Mach → Mach
 quantOf l s env m = quantBy (exprOf l s env) (predOf l s env) s env m
+
+abbrev pub predQuantOf : ℕ → List ℕ → List ℕ → Mach → Mach
+predQuantOf l s env m = predQuantBy (predOf l s env) s env m
+
+abbrev pub ascribedOf : ℕ → List ℕ → List ℕ → Mach → Mach
+ascribedOf l s env m = ascribedBy (exprOf l s env) s env m

@@ -11,7 +11,7 @@ ghost use Prim.Native.Nat.{ℕ, _+_, _*_, _-_, _<_, _≤_};
 ghost use mathlib.Core.List.{List};
 ghost use lib.ListN.{length, getD};
 ghost use Rattle.machine.specs.Machine.{mach};
-ghost use Rattle.walker.specs.Walk.{meetOf, nextOf, oneOf, twoOf, allOf, childrenOf, predsOf, quantOf, bodyOf, predBodyOf, exprOf, explicitOf, predOf};
+ghost use Rattle.walker.specs.Walk.{meetOf, nextOf, leafOf, oneOf, twoOf, allOf, countedOf, childrenOf, predsOf, quantOf, predQuantOf, ascribedOf, bodyOf, predBodyOf, exprOf, explicitOf, predOf};
 ghost use Rattle.walker.specs.Root.{pairsOf, productsOf, belongsOf, becomesInOf, targetsOf, sharesOf, suchThatOf, becomesSuchOf, formulaOf};
 
 // A child against what it is compared with, unless the mode compares nothing.
@@ -41,6 +41,40 @@ fn next(mode: u8, y: NodeRef, t: NodeRef) -> NodeRef
         return t;
     }
     y
+}
+
+// ---- records with no record below them
+
+// 01 to 04: a free identifier, a bound one, a literal, a constant of the language. k is the record's kind.
+fn leaf(
+    s: &[u8],
+    env: &[u8],
+    work: &mut [u32],
+    output: &mut [u8],
+    size: u32,
+    k: u8,
+    st: State,
+) -> State
+    ensures { λ r. ⌜ mach size r (now (work .exit)) (now (output .exit)) ≡ leafOf k (now (s .entry)) (now (env .entry)) (mach size st (now (work .entry)) (now (output .entry))) ⌝ }
+{
+    let at = st.at;
+    if k == 0x01 {
+        let name = Name(machine::word(s, at, 1));
+        return machine::free_identifier(env, work, size, name, at, machine::moved(3, st));
+    }
+    if k == 0x02 {
+        let index = machine::word(s, at, 1);
+        return machine::bound_identifier(work, output, size, index, at, machine::moved(3, st));
+    }
+    if k == 0x03 {
+        return machine::make(work, size, 0x41, 0, 0, machine::moved(1, st));
+    }
+    if k == 0x04 {
+        let n = machine::check_atomic(machine::byte(s, at, 1));
+        let p = machine::played_with(NodeRef(0), at, NodeRef(0), at, at, st);
+        return machine::play(work, output, size, n, p, machine::moved(2, st));
+    }
+    machine::stopped(2, st)
 }
 
 // ---- the cycle: expressions and predicates
@@ -119,41 +153,11 @@ fn body(
 {
     let at = st.at;
     let k = machine::byte(s, at, 0);
-    if k == 0x01 {
-        let name = Name(machine::word(s, at, 1));
-        return machine::free_identifier(env, work, size, name, at, machine::moved(3, st));
-    }
-    if k == 0x02 {
-        let index = machine::word(s, at, 1);
-        return machine::bound_identifier(work, output, size, index, at, machine::moved(3, st));
-    }
-    if k == 0x03 {
-        return machine::make(work, size, 0x41, 0, 0, machine::moved(1, st));
-    }
-    if k == 0x04 {
-        let n = machine::check_atomic(machine::byte(s, at, 1));
-        let p = machine::played_with(NodeRef(0), at, NodeRef(0), at, at, st);
-        return machine::play(work, output, size, n, p, machine::moved(2, st));
+    if k < 0x05 {
+        return leaf(s, env, work, output, size, k, st);
     }
     if k == 0x05 {
-        let plan = Plan {
-            first: machine::UNKNOWN,
-            link: machine::NOTHING,
-            last: machine::POWER,
-            mode: 1,
-        };
-        let n = machine::word(s, at, 1);
-        return all(
-            s,
-            env,
-            work,
-            output,
-            size,
-            left,
-            plan,
-            n,
-            machine::moved(3, st),
-        );
+        return counted(s, env, work, output, size, left, EXTENSION, st);
     }
     if k == 0x06 {
         let a = pred(s, env, work, output, size, left, machine::moved(1, st));
@@ -161,57 +165,46 @@ fn body(
     }
     if k == 0x07 {
         let n = machine::check_binary(machine::byte(s, at, 1));
-        return two(
-            s,
-            env,
-            work,
-            output,
-            size,
-            left,
-            n,
-            at,
-            machine::moved(2, st),
-        );
+        let a = machine::moved(2, st);
+        return two(s, env, work, output, size, left, n, at, a);
     }
     if k == 0x08 {
         let plan = machine::check_associative(machine::byte(s, at, 1));
         let n = machine::word(s, at, 2);
-        return all(
-            s,
-            env,
-            work,
-            output,
-            size,
-            left,
-            plan,
-            n,
-            machine::moved(4, st),
-        );
+        let a = machine::moved(4, st);
+        return all(s, env, work, output, size, left, plan, n, a);
     }
     if k == 0x09 {
         let n = machine::check_unary(machine::byte(s, at, 1));
-        return one(
-            s,
-            env,
-            work,
-            output,
-            size,
-            left,
-            n,
-            at,
-            machine::moved(2, st),
-        );
+        let a = machine::moved(2, st);
+        return one(s, env, work, output, size, left, n, at, a);
     }
     if k == 0x0A {
         return quant(s, env, work, output, size, left, st);
     }
     if k == 0x0B {
-        let a = expr(s, env, work, output, size, left, machine::moved(1, st));
-        let x = a.last;
-        let b = machine::ascription(s, env, work, output, size, x, at, a);
-        return machine::gave(x, b);
+        return ascribed(s, env, work, output, size, left, st);
     }
     machine::stopped(2, st)
+}
+
+// 0B, an expression whose type is ascribed: the ascription stands behind it, and is compared at the record's place.
+fn ascribed(
+    s: &[u8],
+    env: &[u8],
+    work: &mut [u32],
+    output: &mut [u8],
+    size: u32,
+    left: u32,
+    st: State,
+) -> State
+    ensures { λ r. ⌜ mach size r (now (work .exit)) (now (output .exit)) ≡ ascribedOf left (now (s .entry)) (now (env .entry)) (mach size st (now (work .entry)) (now (output .entry))) ⌝ }
+{
+    let at = st.at;
+    let a = expr(s, env, work, output, size, left, machine::moved(1, st));
+    let x = a.last;
+    let b = machine::ascription(s, env, work, output, size, x, at, a);
+    machine::gave(x, b)
 }
 
 // One expression, and then a script.
@@ -257,6 +250,46 @@ fn two(
     let yfrom = b.from;
     let p = machine::played_with(x, xfrom, y, yfrom, place, b);
     machine::play(work, output, size, n, p, b)
+}
+
+// The plans of a set extension, of a multiple predicate and of a predicate's application.
+const EXTENSION: Plan = Plan {
+    first: machine::UNKNOWN,
+    link: machine::NOTHING,
+    last: machine::POWER,
+    mode: 1,
+};
+
+const MULTIPLE: Plan = Plan {
+    first: machine::EMPTY_SET,
+    link: machine::NOTHING,
+    last: machine::NOTHING,
+    mode: 1,
+};
+
+const APPLICATION: Plan = Plan {
+    first: machine::NOTHING,
+    link: machine::NOTHING,
+    last: machine::NOTHING,
+    mode: 0,
+};
+
+// 05, 28, 29: as many expressions as the number behind the kind says, by a plan.
+fn counted(
+    s: &[u8],
+    env: &[u8],
+    work: &mut [u32],
+    output: &mut [u8],
+    size: u32,
+    left: u32,
+    plan: Plan,
+    st: State,
+) -> State
+    ensures { λ r. ⌜ mach size r (now (work .exit)) (now (output .exit)) ≡ countedOf left (now (s .entry)) (now (env .entry)) plan (mach size st (now (work .entry)) (now (output .entry))) ⌝ }
+{
+    let n = machine::word(s, st.at, 1);
+    let a = machine::moved(3, st);
+    all(s, env, work, output, size, left, plan, n, a)
 }
 
 // Any number of expressions, by a plan.
@@ -384,17 +417,8 @@ fn pbody(
     }
     if k == 0x22 {
         let n = machine::check_relational(machine::byte(s, at, 1));
-        return two(
-            s,
-            env,
-            work,
-            output,
-            size,
-            left,
-            n,
-            at,
-            machine::moved(2, st),
-        );
+        let a = machine::moved(2, st);
+        return two(s, env, work, output, size, left, n, at, a);
     }
     if k == 0x23 {
         return preds(s, env, work, output, size, left, 2, machine::moved(1, st));
@@ -407,67 +431,39 @@ fn pbody(
         return pred(s, env, work, output, size, left, machine::moved(1, st));
     }
     if k == 0x26 {
-        let around = st.bound;
-        let count = machine::byte(s, at, 1);
-        let a = machine::declare(s, env, work, output, size, count, machine::moved(2, st));
-        let b = pred(s, env, work, output, size, left, a);
-        return machine::bounded(around, b);
+        return pquant(s, env, work, output, size, left, st);
     }
     if k == 0x27 {
-        return one(
-            s,
-            env,
-            work,
-            output,
-            size,
-            left,
-            machine::FINITE,
-            at,
-            machine::moved(1, st),
-        );
+        let a = machine::moved(1, st);
+        return one(s, env, work, output, size, left, machine::FINITE, at, a);
     }
     if k == 0x28 {
-        let plan = Plan {
-            first: machine::EMPTY_SET,
-            link: machine::NOTHING,
-            last: machine::NOTHING,
-            mode: 1,
-        };
-        let n = machine::word(s, at, 1);
-        return all(
-            s,
-            env,
-            work,
-            output,
-            size,
-            left,
-            plan,
-            n,
-            machine::moved(3, st),
-        );
+        return counted(s, env, work, output, size, left, MULTIPLE, st);
     }
     if k == 0x29 {
-        let plan = Plan {
-            first: machine::NOTHING,
-            link: machine::NOTHING,
-            last: machine::NOTHING,
-            mode: 0,
-        };
-        let n = machine::word(s, at, 1);
-        let a = all(
-            s,
-            env,
-            work,
-            output,
-            size,
-            left,
-            plan,
-            n,
-            machine::moved(3, st),
-        );
+        let a = counted(s, env, work, output, size, left, APPLICATION, st);
         return machine::list(output, 5, at, Name(machine::NO_NAME), a);
     }
     machine::stopped(2, st)
+}
+
+// 26, a quantified predicate.
+fn pquant(
+    s: &[u8],
+    env: &[u8],
+    work: &mut [u32],
+    output: &mut [u8],
+    size: u32,
+    left: u32,
+    st: State,
+) -> State
+    ensures { λ r. ⌜ mach size r (now (work .exit)) (now (output .exit)) ≡ predQuantOf left (now (s .entry)) (now (env .entry)) (mach size st (now (work .entry)) (now (output .entry))) ⌝ }
+{
+    let around = st.bound;
+    let count = machine::byte(s, st.at, 1);
+    let a = machine::declare(s, env, work, output, size, count, machine::moved(2, st));
+    let b = pred(s, env, work, output, size, left, a);
+    machine::bounded(around, b)
 }
 
 // n predicates.

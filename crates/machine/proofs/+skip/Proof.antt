@@ -26,311 +26,86 @@ skip-at t = and 1 skip-kinds.ps (is 1 skip-kinds.ps μ-skip t) skip.Pre
 abbrev skip-below : ℕ → In 1 skip-kinds.ps
 skip-below t = and 1 skip-kinds.ps (falls 1 skip-kinds.ps _<_ μ-skip t) skip.Pre
 
--- src/lib.rt:497:9
-skip-returns : (t : ℕ) → skip-lts.Need-returns (
-  stopped-reads.Asked,
-  stopped-reads.Learnt,
-  byte-reads.Asked,
-  byte-reads.Learnt,
-  moved-reads.Asked,
-  moved-reads.Learnt,
-  skip-below t,
-  skip.Post,
-) (skip-at t) skip.Post
+-- what each member is handed of the functions that it calls
+abbrev skip-env : ℕ → skip-lts.Claims
+skip-env t = (stopped-reads.Asked, stopped-reads.Learnt, byte-reads.Asked, byte-reads.Learnt, moved-reads.Asked, moved-reads.Learnt, skip-below t, skip.Post)
+
+skip-returns : (t : ℕ) → skip-lts.Need-returns (skip-env t) (skip-at t) skip.Post
 unfolding skipBy
 skip-returns t c = by-skip _ _ _ _ (no-eq _ _ _ _ _ (c .if1 .taken) (refl))
 
--- src/lib.rt:500:9
-skip-stopped-requires : (t : ℕ) → skip-lts.Need-stopped-requires (
-  stopped-reads.Asked,
-  stopped-reads.Learnt,
-  byte-reads.Asked,
-  byte-reads.Learnt,
-  moved-reads.Asked,
-  moved-reads.Learnt,
-  skip-below t,
-  skip.Post,
-) (skip-at t) skip.Post
+skip-stopped-requires : (t : ℕ) → skip-lts.Need-stopped-requires (skip-env t) (skip-at t) skip.Post
 skip-stopped-requires t c κs = search needs
 
--- src/lib.rt:500:9
-skip-returns-2 : (t : ℕ) → skip-lts.Need-returns-2 (
-  stopped-reads.Asked,
-  stopped-reads.Learnt,
-  byte-reads.Asked,
-  byte-reads.Learnt,
-  moved-reads.Asked,
-  moved-reads.Learnt,
-  skip-below t,
-  skip.Post,
-) (skip-at t) skip.Post
+skip-returns-2 : (t : ℕ) → skip-lts.Need-returns-2 (skip-env t) (skip-at t) skip.Post
 unfolding skipBy
 skip-returns-2 t c = by-skip _ _ _ _ (yes-eq _ _ _ _ _ (c .before .before .if1 .left) (yes-eq _ _ _ _ _ (c .before .if2 .taken) (c .stopped .ensures)))
 
--- src/lib.rt:502:9
-skip-byte-requires : (t : ℕ) → skip-lts.Need-byte-requires (
-  stopped-reads.Asked,
-  stopped-reads.Learnt,
-  byte-reads.Asked,
-  byte-reads.Learnt,
-  moved-reads.Asked,
-  moved-reads.Learnt,
-  skip-below t,
-  skip.Post,
-) (skip-at t) skip.Post
+skip-byte-requires : (t : ℕ) → skip-lts.Need-byte-requires (skip-env t) (skip-at t) skip.Post
 skip-byte-requires t c κs = search needs
 
--- src/lib.rt:504:9
-skip-moved-requires : (t : ℕ) → skip-lts.Need-moved-requires (
-  stopped-reads.Asked,
-  stopped-reads.Learnt,
-  byte-reads.Asked,
-  byte-reads.Learnt,
-  moved-reads.Asked,
-  moved-reads.Learnt,
-  skip-below t,
-  skip.Post,
-) (skip-at t) skip.Post
+skip-moved-requires : (t : ℕ) → skip-lts.Need-moved-requires (skip-env t) (skip-at t) skip.Post
 skip-moved-requires t c κs = search needs
 
--- src/lib.rt:504:9
-skip-returns-3 : (t : ℕ) → skip-lts.Need-returns-3 (
-  stopped-reads.Asked,
-  stopped-reads.Learnt,
-  byte-reads.Asked,
-  byte-reads.Learnt,
-  moved-reads.Asked,
-  moved-reads.Learnt,
-  skip-below t,
-  skip.Post,
-) (skip-at t) skip.Post
+skip-returns-3 : (t : ℕ) → skip-lts.Need-returns-3 (skip-env t) (skip-at t) skip.Post
 unfolding skipBy
 skip-returns-3 t c = by-skip _ _ _ _ (yes-eq _ _ _ _ _ (c .before .before .before .before .if1 .left) (no-eq _ _ _ _ _ (c .before .before .before .if2 .left) (step _ _ _ _ (c .before .before .byte .ensures) (yes-eq _ _ _ _ _ (c .before .if3 .taken) (c .moved .ensures)))))
 
--- src/lib.rt:507:9
-skip-moved-requires-2 : (t : ℕ) → skip-lts.Need-moved-requires-2 (
-  stopped-reads.Asked,
-  stopped-reads.Learnt,
-  byte-reads.Asked,
-  byte-reads.Learnt,
-  moved-reads.Asked,
-  moved-reads.Learnt,
-  skip-below t,
-  skip.Post,
-) (skip-at t) skip.Post
+skip-moved-requires-2 : (t : ℕ) → skip-lts.Need-moved-requires-2 (skip-env t) (skip-at t) skip.Post
 skip-moved-requires-2 t c κs = search needs
 
--- src/lib.rt:507:9
-skip-returns-4 : (t : ℕ) → skip-lts.Need-returns-4 (
-  stopped-reads.Asked,
-  stopped-reads.Learnt,
-  byte-reads.Asked,
-  byte-reads.Learnt,
-  moved-reads.Asked,
-  moved-reads.Learnt,
-  skip-below t,
-  skip.Post,
-) (skip-at t) skip.Post
+skip-returns-4 : (t : ℕ) → skip-lts.Need-returns-4 (skip-env t) (skip-at t) skip.Post
 unfolding skipBy
 skip-returns-4 t c = by-skip _ _ _ _ (yes-eq _ _ _ _ _ (c .before .before .before .before .before .if1 .left) (no-eq _ _ _ _ _ (c .before .before .before .before .if2 .left) (step _ _ _ _ (c .before .before .before .byte .ensures) (no-eq _ _ _ _ _ (c .before .before .if3 .left) (yes-eq _ _ _ _ _ (c .before .if4 .taken) (c .moved2 .ensures))))))
 
--- src/lib.rt:510:9
-skip-moved-requires-3 : (t : ℕ) → skip-lts.Need-moved-requires-3 (
-  stopped-reads.Asked,
-  stopped-reads.Learnt,
-  byte-reads.Asked,
-  byte-reads.Learnt,
-  moved-reads.Asked,
-  moved-reads.Learnt,
-  skip-below t,
-  skip.Post,
-) (skip-at t) skip.Post
+skip-moved-requires-3 : (t : ℕ) → skip-lts.Need-moved-requires-3 (skip-env t) (skip-at t) skip.Post
 skip-moved-requires-3 t c κs = search needs
 
--- src/lib.rt:510:9
-skip-returns-5 : (t : ℕ) → skip-lts.Need-returns-5 (
-  stopped-reads.Asked,
-  stopped-reads.Learnt,
-  byte-reads.Asked,
-  byte-reads.Learnt,
-  moved-reads.Asked,
-  moved-reads.Learnt,
-  skip-below t,
-  skip.Post,
-) (skip-at t) skip.Post
+skip-returns-5 : (t : ℕ) → skip-lts.Need-returns-5 (skip-env t) (skip-at t) skip.Post
 unfolding skipBy
 skip-returns-5 t c = by-skip _ _ _ _ (yes-eq _ _ _ _ _ (c .before .before .before .before .before .before .if1 .left) (no-eq _ _ _ _ _ (c .before .before .before .before .before .if2 .left) (step _ _ _ _ (c .before .before .before .before .byte .ensures) (no-eq _ _ _ _ _ (c .before .before .before .if3 .left) (no-eq _ _ _ _ _ (c .before .before .if4 .left) (yes-eq _ _ _ _ _ (c .before .if5 .taken) (c .moved3 .ensures)))))))
 
--- src/lib.rt:513:24
-skip-sub-skip : (t : ℕ) → skip-lts.Need-sub-skip (
-  stopped-reads.Asked,
-  stopped-reads.Learnt,
-  byte-reads.Asked,
-  byte-reads.Learnt,
-  moved-reads.Asked,
-  moved-reads.Learnt,
-  skip-below t,
-  skip.Post,
-) (skip-at t) skip.Post
+skip-sub-skip : (t : ℕ) → skip-lts.Need-sub-skip (skip-env t) (skip-at t) skip.Post
 skip-sub-skip t c = search needs
 
--- src/lib.rt:513:34
-skip-moved-requires-4 : (t : ℕ) → skip-lts.Need-moved-requires-4 (
-  stopped-reads.Asked,
-  stopped-reads.Learnt,
-  byte-reads.Asked,
-  byte-reads.Learnt,
-  moved-reads.Asked,
-  moved-reads.Learnt,
-  skip-below t,
-  skip.Post,
-) (skip-at t) skip.Post
+skip-moved-requires-4 : (t : ℕ) → skip-lts.Need-moved-requires-4 (skip-env t) (skip-at t) skip.Post
 skip-moved-requires-4 t c κs = search needs
 
--- src/lib.rt:513:9
-skip-skip-requires : (t : ℕ) → skip-lts.Need-skip-requires (
-  stopped-reads.Asked,
-  stopped-reads.Learnt,
-  byte-reads.Asked,
-  byte-reads.Learnt,
-  moved-reads.Asked,
-  moved-reads.Learnt,
-  skip-below t,
-  skip.Post,
-) (skip-at t) skip.Post
+skip-skip-requires : (t : ℕ) → skip-lts.Need-skip-requires (skip-env t) (skip-at t) skip.Post
 skip-skip-requires t c κs = (omega (arith, c .before .before .before .before .before .before .before .before .before .before .pre .0, c .before .before .before .before .before .before .if2 .left, c .before .before .before .before .before .before .before .if1 .left), tt)
 
--- src/lib.rt:513:9
-skip-returns-6 : (t : ℕ) → skip-lts.Need-returns-6 (
-  stopped-reads.Asked,
-  stopped-reads.Learnt,
-  byte-reads.Asked,
-  byte-reads.Learnt,
-  moved-reads.Asked,
-  moved-reads.Learnt,
-  skip-below t,
-  skip.Post,
-) (skip-at t) skip.Post
+skip-returns-6 : (t : ℕ) → skip-lts.Need-returns-6 (skip-env t) (skip-at t) skip.Post
 unfolding skipBy
 skip-returns-6 t c = by-skip _ _ _ _ (yes-eq _ _ _ _ _ (c .before .before .before .before .before .before .before .before .if1 .left) (no-eq _ _ _ _ _ (c .before .before .before .before .before .before .before .if2 .left) (step _ _ _ _ (c .before .before .before .before .before .before .byte .ensures) (no-eq _ _ _ _ _ (c .before .before .before .before .before .if3 .left) (no-eq _ _ _ _ _ (c .before .before .before .before .if4 .left) (no-eq _ _ _ _ _ (c .before .before .before .if5 .left) (yes-eq _ _ _ _ _ (c .before .before .if6 .taken) (step _ _ _ _ (c .before .moved4 .ensures) (c .skip .ensures)))))))))
 
--- src/lib.rt:516:25
-skip-sub-skip-2 : (t : ℕ) → skip-lts.Need-sub-skip-2 (
-  stopped-reads.Asked,
-  stopped-reads.Learnt,
-  byte-reads.Asked,
-  byte-reads.Learnt,
-  moved-reads.Asked,
-  moved-reads.Learnt,
-  skip-below t,
-  skip.Post,
-) (skip-at t) skip.Post
+skip-sub-skip-2 : (t : ℕ) → skip-lts.Need-sub-skip-2 (skip-env t) (skip-at t) skip.Post
 skip-sub-skip-2 t c = search needs
 
--- src/lib.rt:516:35
-skip-moved-requires-5 : (t : ℕ) → skip-lts.Need-moved-requires-5 (
-  stopped-reads.Asked,
-  stopped-reads.Learnt,
-  byte-reads.Asked,
-  byte-reads.Learnt,
-  moved-reads.Asked,
-  moved-reads.Learnt,
-  skip-below t,
-  skip.Post,
-) (skip-at t) skip.Post
+skip-moved-requires-5 : (t : ℕ) → skip-lts.Need-moved-requires-5 (skip-env t) (skip-at t) skip.Post
 skip-moved-requires-5 t c κs = search needs
 
--- src/lib.rt:516:13
-skip-skip-requires-2 : (t : ℕ) → skip-lts.Need-skip-requires-2 (
-  stopped-reads.Asked,
-  stopped-reads.Learnt,
-  byte-reads.Asked,
-  byte-reads.Learnt,
-  moved-reads.Asked,
-  moved-reads.Learnt,
-  skip-below t,
-  skip.Post,
-) (skip-at t) skip.Post
+skip-skip-requires-2 : (t : ℕ) → skip-lts.Need-skip-requires-2 (skip-env t) (skip-at t) skip.Post
 skip-skip-requires-2 t c κs = (omega (arith, c .before .before .before .before .before .before .before .before .before .before .before .pre .0, c .before .before .before .before .before .before .before .if2 .left, c .before .before .before .before .before .before .before .before .if1 .left), tt)
 
--- src/lib.rt:517:24
-skip-sub-skip-3 : (t : ℕ) → skip-lts.Need-sub-skip-3 (
-  stopped-reads.Asked,
-  stopped-reads.Learnt,
-  byte-reads.Asked,
-  byte-reads.Learnt,
-  moved-reads.Asked,
-  moved-reads.Learnt,
-  skip-below t,
-  skip.Post,
-) (skip-at t) skip.Post
+skip-sub-skip-3 : (t : ℕ) → skip-lts.Need-sub-skip-3 (skip-env t) (skip-at t) skip.Post
 skip-sub-skip-3 t c = search needs
 
--- src/lib.rt:517:9
-skip-skip-requires-3 : (t : ℕ) → skip-lts.Need-skip-requires-3 (
-  stopped-reads.Asked,
-  stopped-reads.Learnt,
-  byte-reads.Asked,
-  byte-reads.Learnt,
-  moved-reads.Asked,
-  moved-reads.Learnt,
-  skip-below t,
-  skip.Post,
-) (skip-at t) skip.Post
+skip-skip-requires-3 : (t : ℕ) → skip-lts.Need-skip-requires-3 (skip-env t) (skip-at t) skip.Post
 skip-skip-requires-3 t c κs = (omega (arith, c .before .before .before .before .before .before .before .before .before .before .before .before .pre .0, c .before .before .before .before .before .before .before .before .if2 .left, c .before .before .before .before .before .before .before .before .before .if1 .left), tt)
 
--- src/lib.rt:517:9
-skip-returns-7 : (t : ℕ) → skip-lts.Need-returns-7 (
-  stopped-reads.Asked,
-  stopped-reads.Learnt,
-  byte-reads.Asked,
-  byte-reads.Learnt,
-  moved-reads.Asked,
-  moved-reads.Learnt,
-  skip-below t,
-  skip.Post,
-) (skip-at t) skip.Post
+skip-returns-7 : (t : ℕ) → skip-lts.Need-returns-7 (skip-env t) (skip-at t) skip.Post
 unfolding skipBy
 skip-returns-7 t c = by-skip _ _ _ _ (yes-eq _ _ _ _ _ (c .before .before .before .before .before .before .before .before .before .before .if1 .left) (no-eq _ _ _ _ _ (c .before .before .before .before .before .before .before .before .before .if2 .left) (step _ _ _ _ (c .before .before .before .before .before .before .before .before .byte .ensures) (no-eq _ _ _ _ _ (c .before .before .before .before .before .before .before .if3 .left) (no-eq _ _ _ _ _ (c .before .before .before .before .before .before .if4 .left) (no-eq _ _ _ _ _ (c .before .before .before .before .before .if5 .left) (no-eq _ _ _ _ _ (c .before .before .before .before .if6 .left) (yes-eq _ _ _ _ _ (c .before .before .before .if7 .taken) (step _ _ _ _ (c .before .before .moved5 .ensures) (step _ _ _ _ (c .before .skip2 .ensures) (c .skip3 .ensures)))))))))))
 
--- src/lib.rt:519:5
-skip-stopped-requires-2 : (t : ℕ) → skip-lts.Need-stopped-requires-2 (
-  stopped-reads.Asked,
-  stopped-reads.Learnt,
-  byte-reads.Asked,
-  byte-reads.Learnt,
-  moved-reads.Asked,
-  moved-reads.Learnt,
-  skip-below t,
-  skip.Post,
-) (skip-at t) skip.Post
+skip-stopped-requires-2 : (t : ℕ) → skip-lts.Need-stopped-requires-2 (skip-env t) (skip-at t) skip.Post
 skip-stopped-requires-2 t c κs = search needs
 
--- src/lib.rt:493:1
-skip-returns-8 : (t : ℕ) → skip-lts.Need-returns-8 (
-  stopped-reads.Asked,
-  stopped-reads.Learnt,
-  byte-reads.Asked,
-  byte-reads.Learnt,
-  moved-reads.Asked,
-  moved-reads.Learnt,
-  skip-below t,
-  skip.Post,
-) (skip-at t) skip.Post
+skip-returns-8 : (t : ℕ) → skip-lts.Need-returns-8 (skip-env t) (skip-at t) skip.Post
 unfolding skipBy
 skip-returns-8 t c = by-skip _ _ _ _ (yes-eq _ _ _ _ _ (c .before .before .before .before .before .before .before .before .if1 .left) (no-eq _ _ _ _ _ (c .before .before .before .before .before .before .before .if2 .left) (step _ _ _ _ (c .before .before .before .before .before .before .byte .ensures) (no-eq _ _ _ _ _ (c .before .before .before .before .before .if3 .left) (no-eq _ _ _ _ _ (c .before .before .before .before .if4 .left) (no-eq _ _ _ _ _ (c .before .before .before .if5 .left) (no-eq _ _ _ _ _ (c .before .before .if6 .left) (no-eq _ _ _ _ _ (c .before .if7 .left) (c .stopped2 .ensures)))))))))
 
 pub +skip-spec : {M : Type 1} → statement M
-+skip-spec = close μ-skip λ t. skip-lts.spec (
-  stopped-reads.Asked,
-  stopped-reads.Learnt,
-  byte-reads.Asked,
-  byte-reads.Learnt,
-  moved-reads.Asked,
-  moved-reads.Learnt,
-  skip-below t,
-  skip.Post,
-)
++skip-spec = close μ-skip λ t. skip-lts.spec (skip-env t)
     (skip-at t)
     skip.Post
     (skip-returns t)

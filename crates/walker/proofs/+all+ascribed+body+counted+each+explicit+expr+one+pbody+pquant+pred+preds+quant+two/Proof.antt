@@ -5,7 +5,7 @@ use Rattle.machine.specs.Forms.{test, then, step, yes-if, no-if, yes-eq, no-eq,
 use lib.ListN.{length}
 use Rattle.machine.specs.Machine.{mach}
 use Rattle.machine.specs.Types.{timesOf}
-use Rattle.walker.specs.Walk.{exprBy, paidBy, enteredBy, typedBy, bodyBy, predBodyBy, oneBy, twoBy, allBy, childBy, childrenBy, quantBy, exprOf, predOf}
+use Rattle.walker.specs.Walk.{exprBy, paidBy, enteredBy, typedBy, ascribedBy, bodyBy, predBodyBy, oneBy, twoBy, allBy, countedBy, childBy, childrenBy, quantBy, predQuantBy, exprOf, predOf}
 use Rattle.walker.proofs.Laws.{by-expr, by-pred, by-explicit, times-none, by-times, children-end, children-more}
 use borrow.Author.Needs.{needs}
 use Prim.Native.Nat.{ℕ, _<_}
@@ -13,50 +13,56 @@ use borrow.Fn.Kinds.{In}
 use borrow.Fn.PlainCycle.{Measures, is, falls, and}
 use Rattle.walker.proofs.all.Reads as all
 use Rattle.walker.proofs.all.Kinds as all-kinds
-use Rattle.walker.proofs.+all+body+each+explicit+expr+one+pbody+pred+preds+quant+two.Lts-all as all-lts
+use Rattle.walker.proofs.+all+ascribed+body+counted+each+explicit+expr+one+pbody+pquant+pred+preds+quant+two.Lts-all as all-lts
+use Rattle.walker.proofs.ascribed.Reads as ascribed
+use Rattle.walker.proofs.ascribed.Kinds as ascribed-kinds
+use Rattle.walker.proofs.+all+ascribed+body+counted+each+explicit+expr+one+pbody+pquant+pred+preds+quant+two.Lts-ascribed as ascribed-lts
 use Rattle.walker.proofs.body.Reads as body
 use Rattle.walker.proofs.body.Kinds as body-kinds
-use Rattle.walker.proofs.+all+body+each+explicit+expr+one+pbody+pred+preds+quant+two.Lts-body as body-lts
+use Rattle.walker.proofs.+all+ascribed+body+counted+each+explicit+expr+one+pbody+pquant+pred+preds+quant+two.Lts-body as body-lts
+use Rattle.walker.proofs.counted.Reads as counted
+use Rattle.walker.proofs.counted.Kinds as counted-kinds
+use Rattle.walker.proofs.+all+ascribed+body+counted+each+explicit+expr+one+pbody+pquant+pred+preds+quant+two.Lts-counted as counted-lts
 use Rattle.walker.proofs.each.Reads as each
 use Rattle.walker.proofs.each.Kinds as each-kinds
-use Rattle.walker.proofs.+all+body+each+explicit+expr+one+pbody+pred+preds+quant+two.Lts-each as each-lts
+use Rattle.walker.proofs.+all+ascribed+body+counted+each+explicit+expr+one+pbody+pquant+pred+preds+quant+two.Lts-each as each-lts
 use Rattle.walker.proofs.explicit.Reads as explicit
 use Rattle.walker.proofs.explicit.Kinds as explicit-kinds
-use Rattle.walker.proofs.+all+body+each+explicit+expr+one+pbody+pred+preds+quant+two.Lts-explicit as explicit-lts
+use Rattle.walker.proofs.+all+ascribed+body+counted+each+explicit+expr+one+pbody+pquant+pred+preds+quant+two.Lts-explicit as explicit-lts
 use Rattle.walker.proofs.expr.Reads as expr
 use Rattle.walker.proofs.expr.Kinds as expr-kinds
-use Rattle.walker.proofs.+all+body+each+explicit+expr+one+pbody+pred+preds+quant+two.Lts-expr as expr-lts
+use Rattle.walker.proofs.+all+ascribed+body+counted+each+explicit+expr+one+pbody+pquant+pred+preds+quant+two.Lts-expr as expr-lts
 use Rattle.walker.proofs.one.Reads as one
 use Rattle.walker.proofs.one.Kinds as one-kinds
-use Rattle.walker.proofs.+all+body+each+explicit+expr+one+pbody+pred+preds+quant+two.Lts-one as one-lts
+use Rattle.walker.proofs.+all+ascribed+body+counted+each+explicit+expr+one+pbody+pquant+pred+preds+quant+two.Lts-one as one-lts
 use Rattle.walker.proofs.pbody.Reads as pbody
 use Rattle.walker.proofs.pbody.Kinds as pbody-kinds
-use Rattle.walker.proofs.+all+body+each+explicit+expr+one+pbody+pred+preds+quant+two.Lts-pbody as pbody-lts
+use Rattle.walker.proofs.+all+ascribed+body+counted+each+explicit+expr+one+pbody+pquant+pred+preds+quant+two.Lts-pbody as pbody-lts
+use Rattle.walker.proofs.pquant.Reads as pquant
+use Rattle.walker.proofs.pquant.Kinds as pquant-kinds
+use Rattle.walker.proofs.+all+ascribed+body+counted+each+explicit+expr+one+pbody+pquant+pred+preds+quant+two.Lts-pquant as pquant-lts
 use Rattle.walker.proofs.pred.Reads as pred
 use Rattle.walker.proofs.pred.Kinds as pred-kinds
-use Rattle.walker.proofs.+all+body+each+explicit+expr+one+pbody+pred+preds+quant+two.Lts-pred as pred-lts
+use Rattle.walker.proofs.+all+ascribed+body+counted+each+explicit+expr+one+pbody+pquant+pred+preds+quant+two.Lts-pred as pred-lts
 use Rattle.walker.proofs.preds.Reads as preds
 use Rattle.walker.proofs.preds.Kinds as preds-kinds
-use Rattle.walker.proofs.+all+body+each+explicit+expr+one+pbody+pred+preds+quant+two.Lts-preds as preds-lts
+use Rattle.walker.proofs.+all+ascribed+body+counted+each+explicit+expr+one+pbody+pquant+pred+preds+quant+two.Lts-preds as preds-lts
 use Rattle.walker.proofs.quant.Reads as quant
 use Rattle.walker.proofs.quant.Kinds as quant-kinds
-use Rattle.walker.proofs.+all+body+each+explicit+expr+one+pbody+pred+preds+quant+two.Lts-quant as quant-lts
+use Rattle.walker.proofs.+all+ascribed+body+counted+each+explicit+expr+one+pbody+pquant+pred+preds+quant+two.Lts-quant as quant-lts
 use Rattle.walker.proofs.two.Reads as two
 use Rattle.walker.proofs.two.Kinds as two-kinds
-use Rattle.walker.proofs.+all+body+each+explicit+expr+one+pbody+pred+preds+quant+two.Lts-two as two-lts
+use Rattle.walker.proofs.+all+ascribed+body+counted+each+explicit+expr+one+pbody+pquant+pred+preds+quant+two.Lts-two as two-lts
 use Rattle.machine.proofs.ascription.Reads as ascription-reads
-use Rattle.machine.proofs.bound_identifier.Reads as bound-identifier-reads
 use Rattle.machine.proofs.bounded.Reads as bounded-reads
 use Rattle.machine.proofs.byte.Reads as byte-reads
 use Rattle.machine.proofs.check_associative.Reads as check-associative-reads
-use Rattle.machine.proofs.check_atomic.Reads as check-atomic-reads
 use Rattle.machine.proofs.check_binary.Reads as check-binary-reads
 use Rattle.machine.proofs.check_quantified.Reads as check-quantified-reads
 use Rattle.machine.proofs.check_relational.Reads as check-relational-reads
 use Rattle.machine.proofs.check_unary.Reads as check-unary-reads
 use Rattle.machine.proofs.declare.Reads as declare-reads
 use Rattle.machine.proofs.enter.Reads as enter-reads
-use Rattle.machine.proofs.free_identifier.Reads as free-identifier-reads
 use Rattle.machine.proofs.gave.Reads as gave-reads
 use Rattle.machine.proofs.leave.Reads as leave-reads
 use Rattle.machine.proofs.list.Reads as list-reads
@@ -70,47 +76,57 @@ use Rattle.machine.proofs.played_with.Reads as played-with-reads
 use Rattle.machine.proofs.skip.Reads as skip-reads
 use Rattle.machine.proofs.stopped.Reads as stopped-reads
 use Rattle.machine.proofs.word.Reads as word-reads
+use Rattle.walker.proofs.leaf.Reads as leaf-reads
 use Rattle.walker.proofs.meet.Reads as meet-reads
 use Rattle.walker.proofs.next.Reads as next-reads
-use Rattle.walker.proofs.+all+body+each+explicit+expr+one+pbody+pred+preds+quant+two.{
+use Rattle.walker.proofs.+all+ascribed+body+counted+each+explicit+expr+one+pbody+pquant+pred+preds+quant+two.{
   statement,
 }
-use Rattle.walker.proofs.+all+body+each+explicit+expr+one+pbody+pred+preds+quant+two.Tie.{
+use Rattle.walker.proofs.+all+ascribed+body+counted+each+explicit+expr+one+pbody+pquant+pred+preds+quant+two.Tie.{
   close,
 }
 
 abbrev μ-all : Measures 4 all-kinds.ps ℕ
-μ-all κs a = a .1 .1 .1 .1 .1 .0 * 6 + 4
+μ-all κs a = a .1 .1 .1 .1 .1 .0 * 7 + 4
+
+abbrev μ-ascribed : Measures 4 ascribed-kinds.ps ℕ
+μ-ascribed κs a = a .1 .1 .1 .1 .1 .0 * 7 + 2
 
 abbrev μ-body : Measures 4 body-kinds.ps ℕ
-μ-body κs a = a .1 .1 .1 .1 .1 .0 * 6 + 5
+μ-body κs a = a .1 .1 .1 .1 .1 .0 * 7 + 6
+
+abbrev μ-counted : Measures 4 counted-kinds.ps ℕ
+μ-counted κs a = a .1 .1 .1 .1 .1 .0 * 7 + 5
 
 abbrev μ-each : Measures 4 each-kinds.ps ℕ
-μ-each κs a = a .1 .1 .1 .1 .1 .0 * 6 + 3
+μ-each κs a = a .1 .1 .1 .1 .1 .0 * 7 + 3
 
 abbrev μ-explicit : Measures 4 explicit-kinds.ps ℕ
-μ-explicit κs a = a .1 .1 .1 .1 .1 .0 * 6 + 0
+μ-explicit κs a = a .1 .1 .1 .1 .1 .0 * 7 + 0
 
 abbrev μ-expr : Measures 4 expr-kinds.ps ℕ
-μ-expr κs a = a .1 .1 .1 .1 .1 .0 * 6 + 1
+μ-expr κs a = a .1 .1 .1 .1 .1 .0 * 7 + 1
 
 abbrev μ-one : Measures 4 one-kinds.ps ℕ
-μ-one κs a = a .1 .1 .1 .1 .1 .0 * 6 + 2
+μ-one κs a = a .1 .1 .1 .1 .1 .0 * 7 + 2
 
 abbrev μ-pbody : Measures 4 pbody-kinds.ps ℕ
-μ-pbody κs a = a .1 .1 .1 .1 .1 .0 * 6 + 5
+μ-pbody κs a = a .1 .1 .1 .1 .1 .0 * 7 + 6
+
+abbrev μ-pquant : Measures 4 pquant-kinds.ps ℕ
+μ-pquant κs a = a .1 .1 .1 .1 .1 .0 * 7 + 2
 
 abbrev μ-pred : Measures 4 pred-kinds.ps ℕ
-μ-pred κs a = a .1 .1 .1 .1 .1 .0 * 6 + 1
+μ-pred κs a = a .1 .1 .1 .1 .1 .0 * 7 + 1
 
 abbrev μ-preds : Measures 4 preds-kinds.ps ℕ
-μ-preds κs a = a .1 .1 .1 .1 .1 .0 * 6 + 2
+μ-preds κs a = a .1 .1 .1 .1 .1 .0 * 7 + 2
 
 abbrev μ-quant : Measures 4 quant-kinds.ps ℕ
-μ-quant κs a = a .1 .1 .1 .1 .1 .0 * 6 + 4
+μ-quant κs a = a .1 .1 .1 .1 .1 .0 * 7 + 4
 
 abbrev μ-two : Measures 4 two-kinds.ps ℕ
-μ-two κs a = a .1 .1 .1 .1 .1 .0 * 6 + 2
+μ-two κs a = a .1 .1 .1 .1 .1 .0 * 7 + 2
 
 abbrev all-at : ℕ → In 4 all-kinds.ps
 all-at t = and 4 all-kinds.ps (is 4 all-kinds.ps μ-all t) all.Pre
@@ -118,11 +134,24 @@ all-at t = and 4 all-kinds.ps (is 4 all-kinds.ps μ-all t) all.Pre
 abbrev all-below : ℕ → In 4 all-kinds.ps
 all-below t = and 4 all-kinds.ps (falls 4 all-kinds.ps _<_ μ-all t) all.Pre
 
+abbrev ascribed-at : ℕ → In 4 ascribed-kinds.ps
+ascribed-at t = and 4 ascribed-kinds.ps (is 4 ascribed-kinds.ps μ-ascribed t) ascribed.Pre
+
+abbrev ascribed-below : ℕ → In 4 ascribed-kinds.ps
+ascribed-below t =
+    and 4 ascribed-kinds.ps (falls 4 ascribed-kinds.ps _<_ μ-ascribed t) ascribed.Pre
+
 abbrev body-at : ℕ → In 4 body-kinds.ps
 body-at t = and 4 body-kinds.ps (is 4 body-kinds.ps μ-body t) body.Pre
 
 abbrev body-below : ℕ → In 4 body-kinds.ps
 body-below t = and 4 body-kinds.ps (falls 4 body-kinds.ps _<_ μ-body t) body.Pre
+
+abbrev counted-at : ℕ → In 4 counted-kinds.ps
+counted-at t = and 4 counted-kinds.ps (is 4 counted-kinds.ps μ-counted t) counted.Pre
+
+abbrev counted-below : ℕ → In 4 counted-kinds.ps
+counted-below t = and 4 counted-kinds.ps (falls 4 counted-kinds.ps _<_ μ-counted t) counted.Pre
 
 abbrev each-at : ℕ → In 4 each-kinds.ps
 each-at t = and 4 each-kinds.ps (is 4 each-kinds.ps μ-each t) each.Pre
@@ -155,6 +184,12 @@ pbody-at t = and 4 pbody-kinds.ps (is 4 pbody-kinds.ps μ-pbody t) pbody.Pre
 abbrev pbody-below : ℕ → In 4 pbody-kinds.ps
 pbody-below t = and 4 pbody-kinds.ps (falls 4 pbody-kinds.ps _<_ μ-pbody t) pbody.Pre
 
+abbrev pquant-at : ℕ → In 4 pquant-kinds.ps
+pquant-at t = and 4 pquant-kinds.ps (is 4 pquant-kinds.ps μ-pquant t) pquant.Pre
+
+abbrev pquant-below : ℕ → In 4 pquant-kinds.ps
+pquant-below t = and 4 pquant-kinds.ps (falls 4 pquant-kinds.ps _<_ μ-pquant t) pquant.Pre
+
 abbrev pred-at : ℕ → In 4 pred-kinds.ps
 pred-at t = and 4 pred-kinds.ps (is 4 pred-kinds.ps μ-pred t) pred.Pre
 
@@ -183,8 +218,14 @@ two-below t = and 4 two-kinds.ps (falls 4 two-kinds.ps _<_ μ-two t) two.Pre
 abbrev all-env : ℕ → all-lts.Claims
 all-env t = (played-with-reads.Asked, played-with-reads.Learnt, play-reads.Asked, play-reads.Learnt, each-below t, each.Post)
 
+abbrev ascribed-env : ℕ → ascribed-lts.Claims
+ascribed-env t = (moved-reads.Asked, moved-reads.Learnt, expr-below t, expr.Post, ascription-reads.Asked, ascription-reads.Learnt, gave-reads.Asked, gave-reads.Learnt)
+
 abbrev body-env : ℕ → body-lts.Claims
-body-env t = (byte-reads.Asked, byte-reads.Learnt, word-reads.Asked, word-reads.Learnt, moved-reads.Asked, moved-reads.Learnt, free-identifier-reads.Asked, free-identifier-reads.Learnt, bound-identifier-reads.Asked, bound-identifier-reads.Learnt, make-reads.Asked, make-reads.Learnt, check-atomic-reads.Asked, check-atomic-reads.Learnt, played-with-reads.Asked, played-with-reads.Learnt, play-reads.Asked, play-reads.Learnt, all-below t, all.Post, pred-below t, pred.Post, check-binary-reads.Asked, check-binary-reads.Learnt, two-below t, two.Post, check-associative-reads.Asked, check-associative-reads.Learnt, check-unary-reads.Asked, check-unary-reads.Learnt, one-below t, one.Post, quant-below t, quant.Post, expr-below t, expr.Post, ascription-reads.Asked, ascription-reads.Learnt, gave-reads.Asked, gave-reads.Learnt, stopped-reads.Asked, stopped-reads.Learnt)
+body-env t = (byte-reads.Asked, byte-reads.Learnt, leaf-reads.Asked, leaf-reads.Learnt, counted-below t, counted.Post, moved-reads.Asked, moved-reads.Learnt, pred-below t, pred.Post, make-reads.Asked, make-reads.Learnt, check-binary-reads.Asked, check-binary-reads.Learnt, two-below t, two.Post, check-associative-reads.Asked, check-associative-reads.Learnt, word-reads.Asked, word-reads.Learnt, all-below t, all.Post, check-unary-reads.Asked, check-unary-reads.Learnt, one-below t, one.Post, quant-below t, quant.Post, ascribed-below t, ascribed.Post, stopped-reads.Asked, stopped-reads.Learnt)
+
+abbrev counted-env : ℕ → counted-lts.Claims
+counted-env t = (word-reads.Asked, word-reads.Learnt, moved-reads.Asked, moved-reads.Learnt, all-below t, all.Post)
 
 abbrev each-env : ℕ → each-lts.Claims
 each-env t = (played-with-reads.Asked, played-with-reads.Learnt, play-reads.Asked, play-reads.Learnt, expr-below t, expr.Post, meet-reads.Asked, meet-reads.Learnt, next-reads.Asked, next-reads.Learnt, gave-reads.Asked, gave-reads.Learnt)
@@ -199,7 +240,10 @@ abbrev one-env : ℕ → one-lts.Claims
 one-env t = (expr-below t, expr.Post, played-with-reads.Asked, played-with-reads.Learnt, play-reads.Asked, play-reads.Learnt)
 
 abbrev pbody-env : ℕ → pbody-lts.Claims
-pbody-env t = (byte-reads.Asked, byte-reads.Learnt, moved-reads.Asked, moved-reads.Learnt, check-relational-reads.Asked, check-relational-reads.Learnt, two-below t, two.Post, preds-below t, preds.Post, word-reads.Asked, word-reads.Learnt, pred-below t, pred.Post, declare-reads.Asked, declare-reads.Learnt, bounded-reads.Asked, bounded-reads.Learnt, one-below t, one.Post, all-below t, all.Post, list-reads.Asked, list-reads.Learnt, stopped-reads.Asked, stopped-reads.Learnt)
+pbody-env t = (byte-reads.Asked, byte-reads.Learnt, moved-reads.Asked, moved-reads.Learnt, check-relational-reads.Asked, check-relational-reads.Learnt, two-below t, two.Post, preds-below t, preds.Post, word-reads.Asked, word-reads.Learnt, pred-below t, pred.Post, pquant-below t, pquant.Post, one-below t, one.Post, counted-below t, counted.Post, list-reads.Asked, list-reads.Learnt, stopped-reads.Asked, stopped-reads.Learnt)
+
+abbrev pquant-env : ℕ → pquant-lts.Claims
+pquant-env t = (byte-reads.Asked, byte-reads.Learnt, moved-reads.Asked, moved-reads.Learnt, declare-reads.Asked, declare-reads.Learnt, pred-below t, pred.Post, bounded-reads.Asked, bounded-reads.Learnt)
 
 abbrev pred-env : ℕ → pred-lts.Claims
 pred-env t = (paid-reads.Asked, paid-reads.Learnt, stopped-reads.Asked, stopped-reads.Learnt, pbody-below t, pbody.Post)
@@ -238,230 +282,196 @@ all-returns : (t : ℕ) → all-lts.Need-returns (all-env t) (all-at t) all.Post
 unfolding allBy
 all-returns t c = step _ _ _ _ (c .before .before .before .before .before .before .before .before .before .before .before .before .before .before .before .before .before .before .before .before .before .before .before .before .played-with .ensures) (step _ _ _ _ (c .before .before .before .before .before .before .before .before .before .before .before .before .before .before .before .before .before .before .before .before .before .play .ensures) (step _ _ _ _ (c .before .before .before .before .before .before .before .before .before .before .before .before .before .each .ensures) (step _ _ _ _ (c .before .before .before .before .before .before .before .played-with2 .ensures) (c .before .before .before .before .play2 .ensures))))
 
+ascribed-moved-requires : (t : ℕ) → ascribed-lts.Need-moved-requires (ascribed-env t) (ascribed-at t) ascribed.Post
+ascribed-moved-requires t c κs = search needs
+
+ascribed-expr-requires : (t : ℕ) → ascribed-lts.Need-expr-requires (ascribed-env t) (ascribed-at t) ascribed.Post
+ascribed-expr-requires t c κs = (omega (arith, c .before .before .before .before .before .before .before .before .pre .0), tt)
+
+ascribed-ascription-requires : (t : ℕ) → ascribed-lts.Need-ascription-requires (ascribed-env t) (ascribed-at t) ascribed.Post
+ascribed-ascription-requires t c κs = search needs
+
+ascribed-gave-requires : (t : ℕ) → ascribed-lts.Need-gave-requires (ascribed-env t) (ascribed-at t) ascribed.Post
+ascribed-gave-requires t c κs = search needs
+
+ascribed-same-length : (t : ℕ) → ascribed-lts.Need-same-length (ascribed-env t) (ascribed-at t) ascribed.Post
+ascribed-same-length t c = omega (arith, c .before .before .before .before .before .ascription .kept .1 .1 .0, c .before .before .before .before .before .ascription .kept .1 .1 .1 .0, c .before .before .before .before .before .before .before .before .before .before .before .before .before .expr .kept .1 .1 .0, c .before .before .before .before .before .before .before .before .before .before .before .before .before .expr .kept .1 .1 .1 .0)
+
+ascribed-same-length-2 : (t : ℕ) → ascribed-lts.Need-same-length-2 (ascribed-env t) (ascribed-at t) ascribed.Post
+ascribed-same-length-2 t c = omega (arith, c .before .before .before .before .before .ascription .kept .1 .1 .0, c .before .before .before .before .before .ascription .kept .1 .1 .1 .0, c .before .before .before .before .before .before .before .before .before .before .before .before .before .expr .kept .1 .1 .0, c .before .before .before .before .before .before .before .before .before .before .before .before .before .expr .kept .1 .1 .1 .0)
+
+ascribed-returns : (t : ℕ) → ascribed-lts.Need-returns (ascribed-env t) (ascribed-at t) ascribed.Post
+unfolding ascribedBy
+ascribed-returns t c = step _ _ _ _ (c .before .before .before .before .before .before .before .before .before .before .before .before .before .before .moved .ensures) (step _ _ _ _ (c .before .before .before .before .before .before .before .before .before .before .before .before .before .expr .ensures) (step _ _ _ _ (c .before .before .before .before .before .ascription .ensures) (step _ _ _ _ (c .gave .ensures) (refl))))
+
 body-byte-requires : (t : ℕ) → body-lts.Need-byte-requires (body-env t) (body-at t) body.Post
 body-byte-requires t c κs = search needs
 
-body-word-requires : (t : ℕ) → body-lts.Need-word-requires (body-env t) (body-at t) body.Post
-body-word-requires t c κs = search needs
+body-leaf-requires : (t : ℕ) → body-lts.Need-leaf-requires (body-env t) (body-at t) body.Post
+body-leaf-requires t c κs = search needs
+
+body-same-length : (t : ℕ) → body-lts.Need-same-length (body-env t) (body-at t) body.Post
+body-same-length t c = omega (arith, c .before .before .before .before .leaf .kept .1 .1 .0, c .before .before .before .before .leaf .kept .1 .1 .1 .0)
+
+body-same-length-2 : (t : ℕ) → body-lts.Need-same-length-2 (body-env t) (body-at t) body.Post
+body-same-length-2 t c = omega (arith, c .before .before .before .before .leaf .kept .1 .1 .0, c .before .before .before .before .leaf .kept .1 .1 .1 .0)
+
+body-returns : (t : ℕ) → body-lts.Need-returns (body-env t) (body-at t) body.Post
+unfolding bodyBy
+body-returns t c = step _ _ _ _ (c .before .before .before .before .before .before .before .before .byte .ensures) (yes-lt _ _ _ _ _ (c .before .before .before .before .before .before .before .if1 .taken) (c .before .before .before .before .leaf .ensures))
+
+body-counted-requires : (t : ℕ) → body-lts.Need-counted-requires (body-env t) (body-at t) body.Post
+body-counted-requires t c κs = (omega (arith, c .before .before .before .before .before .before .before .before .before .before .pre .0), tt)
+
+body-same-length-3 : (t : ℕ) → body-lts.Need-same-length-3 (body-env t) (body-at t) body.Post
+body-same-length-3 t c = omega (arith, c .before .before .before .before .counted .kept .1 .1 .0, c .before .before .before .before .counted .kept .1 .1 .1 .0)
+
+body-same-length-4 : (t : ℕ) → body-lts.Need-same-length-4 (body-env t) (body-at t) body.Post
+body-same-length-4 t c = omega (arith, c .before .before .before .before .counted .kept .1 .1 .0, c .before .before .before .before .counted .kept .1 .1 .1 .0)
+
+body-returns-2 : (t : ℕ) → body-lts.Need-returns-2 (body-env t) (body-at t) body.Post
+unfolding bodyBy
+body-returns-2 t c = step _ _ _ _ (c .before .before .before .before .before .before .before .before .before .byte .ensures) (no-lt _ _ _ _ _ (c .before .before .before .before .before .before .before .before .if1 .left) (yes-eq _ _ _ _ _ (c .before .before .before .before .before .before .before .if2 .taken) (c .before .before .before .before .counted .ensures)))
 
 body-moved-requires : (t : ℕ) → body-lts.Need-moved-requires (body-env t) (body-at t) body.Post
 body-moved-requires t c κs = search needs
 
-body-free-identifier-requires : (t : ℕ) → body-lts.Need-free-identifier-requires (body-env t) (body-at t) body.Post
-body-free-identifier-requires t c κs = search needs
-
-body-same-length : (t : ℕ) → body-lts.Need-same-length (body-env t) (body-at t) body.Post
-body-same-length t c = omega (arith, c .before .before .free-identifier .kept .1 .0)
-
-body-returns : (t : ℕ) → body-lts.Need-returns (body-env t) (body-at t) body.Post
-unfolding bodyBy
-body-returns t c = step _ _ _ _ (c .before .before .before .before .before .before .before .byte .ensures) (yes-eq _ _ _ _ _ (c .before .before .before .before .before .before .if1 .taken) (step _ _ _ _ (c .before .before .before .before .before .word .ensures) (step _ _ _ _ (c .before .before .before .moved .ensures) (c .before .before .free-identifier .ensures _))))
-
-body-word-requires-2 : (t : ℕ) → body-lts.Need-word-requires-2 (body-env t) (body-at t) body.Post
-body-word-requires-2 t c κs = search needs
-
-body-moved-requires-2 : (t : ℕ) → body-lts.Need-moved-requires-2 (body-env t) (body-at t) body.Post
-body-moved-requires-2 t c κs = search needs
-
-body-bound-identifier-requires : (t : ℕ) → body-lts.Need-bound-identifier-requires (body-env t) (body-at t) body.Post
-body-bound-identifier-requires t c κs = search needs
-
-body-same-length-2 : (t : ℕ) → body-lts.Need-same-length-2 (body-env t) (body-at t) body.Post
-body-same-length-2 t c = omega (arith, c .before .before .before .before .bound-identifier .kept .0, c .before .before .before .before .bound-identifier .kept .1 .0)
-
-body-same-length-3 : (t : ℕ) → body-lts.Need-same-length-3 (body-env t) (body-at t) body.Post
-body-same-length-3 t c = omega (arith, c .before .before .before .before .bound-identifier .kept .0, c .before .before .before .before .bound-identifier .kept .1 .0)
-
-body-returns-2 : (t : ℕ) → body-lts.Need-returns-2 (body-env t) (body-at t) body.Post
-unfolding bodyBy
-body-returns-2 t c = step _ _ _ _ (c .before .before .before .before .before .before .before .before .before .before .before .byte .ensures) (no-eq _ _ _ _ _ (c .before .before .before .before .before .before .before .before .before .before .if1 .left) (yes-eq _ _ _ _ _ (c .before .before .before .before .before .before .before .before .before .if2 .taken) (step _ _ _ _ (c .before .before .before .before .before .before .before .before .word2 .ensures) (step _ _ _ _ (c .before .before .before .before .before .moved2 .ensures) (c .before .before .before .before .bound-identifier .ensures)))))
-
-body-moved-requires-3 : (t : ℕ) → body-lts.Need-moved-requires-3 (body-env t) (body-at t) body.Post
-body-moved-requires-3 t c κs = search needs
+body-pred-requires : (t : ℕ) → body-lts.Need-pred-requires (body-env t) (body-at t) body.Post
+body-pred-requires t c κs = (omega (arith, c .before .before .before .before .before .before .before .before .before .before .before .before .pre .0), tt)
 
 body-make-requires : (t : ℕ) → body-lts.Need-make-requires (body-env t) (body-at t) body.Post
 body-make-requires t c κs = search needs
 
-body-same-length-4 : (t : ℕ) → body-lts.Need-same-length-4 (body-env t) (body-at t) body.Post
-body-same-length-4 t c = omega (arith, c .before .before .make .kept .0)
+body-same-length-5 : (t : ℕ) → body-lts.Need-same-length-5 (body-env t) (body-at t) body.Post
+body-same-length-5 t c = omega (arith, c .before .before .make .kept .0, c .before .before .before .before .before .before .before .before .pred .kept .1 .1 .0, c .before .before .before .before .before .before .before .before .pred .kept .1 .1 .1 .0)
+
+body-same-length-6 : (t : ℕ) → body-lts.Need-same-length-6 (body-env t) (body-at t) body.Post
+body-same-length-6 t c = omega (arith, c .before .before .make .kept .0, c .before .before .before .before .before .before .before .before .pred .kept .1 .1 .0, c .before .before .before .before .before .before .before .before .pred .kept .1 .1 .1 .0)
 
 body-returns-3 : (t : ℕ) → body-lts.Need-returns-3 (body-env t) (body-at t) body.Post
 unfolding bodyBy
-body-returns-3 t c = step _ _ _ _ (c .before .before .before .before .before .before .before .before .byte .ensures) (no-eq _ _ _ _ _ (c .before .before .before .before .before .before .before .if1 .left) (no-eq _ _ _ _ _ (c .before .before .before .before .before .before .if2 .left) (yes-eq _ _ _ _ _ (c .before .before .before .before .before .if3 .taken) (step _ _ _ _ (c .before .before .before .moved3 .ensures) (c .before .before .make .ensures _)))))
+body-returns-3 t c = step _ _ _ _ (c .before .before .before .before .before .before .before .before .before .before .before .before .before .before .before .byte .ensures) (no-lt _ _ _ _ _ (c .before .before .before .before .before .before .before .before .before .before .before .before .before .before .if1 .left) (no-eq _ _ _ _ _ (c .before .before .before .before .before .before .before .before .before .before .before .before .before .if2 .left) (yes-eq _ _ _ _ _ (c .before .before .before .before .before .before .before .before .before .before .before .before .if3 .taken) (step _ _ _ _ (c .before .before .before .before .before .before .before .before .before .moved .ensures) (step _ _ _ _ (c .before .before .before .before .before .before .before .before .pred .ensures) (c .before .before .make .ensures _))))))
 
 body-byte-requires-2 : (t : ℕ) → body-lts.Need-byte-requires-2 (body-env t) (body-at t) body.Post
 body-byte-requires-2 t c κs = search needs
 
-body-check-atomic-requires : (t : ℕ) → body-lts.Need-check-atomic-requires (body-env t) (body-at t) body.Post
-body-check-atomic-requires t c κs = search needs
+body-check-binary-requires : (t : ℕ) → body-lts.Need-check-binary-requires (body-env t) (body-at t) body.Post
+body-check-binary-requires t c κs = search needs
 
-body-played-with-requires : (t : ℕ) → body-lts.Need-played-with-requires (body-env t) (body-at t) body.Post
-body-played-with-requires t c κs = search needs
+body-moved-requires-2 : (t : ℕ) → body-lts.Need-moved-requires-2 (body-env t) (body-at t) body.Post
+body-moved-requires-2 t c κs = search needs
 
-body-moved-requires-4 : (t : ℕ) → body-lts.Need-moved-requires-4 (body-env t) (body-at t) body.Post
-body-moved-requires-4 t c κs = search needs
+body-two-requires : (t : ℕ) → body-lts.Need-two-requires (body-env t) (body-at t) body.Post
+body-two-requires t c κs = (omega (arith, c .before .before .before .before .before .before .before .before .before .before .before .before .before .before .before .pre .0), tt)
 
-body-play-requires : (t : ℕ) → body-lts.Need-play-requires (body-env t) (body-at t) body.Post
-body-play-requires t c κs = search needs
+body-same-length-7 : (t : ℕ) → body-lts.Need-same-length-7 (body-env t) (body-at t) body.Post
+body-same-length-7 t c = omega (arith, c .before .before .before .before .two .kept .1 .1 .0, c .before .before .before .before .two .kept .1 .1 .1 .0)
 
-body-same-length-5 : (t : ℕ) → body-lts.Need-same-length-5 (body-env t) (body-at t) body.Post
-body-same-length-5 t c = omega (arith, c .before .before .before .before .play .kept .0, c .before .before .before .before .play .kept .1 .0)
-
-body-same-length-6 : (t : ℕ) → body-lts.Need-same-length-6 (body-env t) (body-at t) body.Post
-body-same-length-6 t c = omega (arith, c .before .before .before .before .play .kept .0, c .before .before .before .before .play .kept .1 .0)
+body-same-length-8 : (t : ℕ) → body-lts.Need-same-length-8 (body-env t) (body-at t) body.Post
+body-same-length-8 t c = omega (arith, c .before .before .before .before .two .kept .1 .1 .0, c .before .before .before .before .two .kept .1 .1 .1 .0)
 
 body-returns-4 : (t : ℕ) → body-lts.Need-returns-4 (body-env t) (body-at t) body.Post
 unfolding bodyBy
-body-returns-4 t c = step _ _ _ _ (c .before .before .before .before .before .before .before .before .before .before .before .before .before .before .before .byte .ensures) (no-eq _ _ _ _ _ (c .before .before .before .before .before .before .before .before .before .before .before .before .before .before .if1 .left) (no-eq _ _ _ _ _ (c .before .before .before .before .before .before .before .before .before .before .before .before .before .if2 .left) (no-eq _ _ _ _ _ (c .before .before .before .before .before .before .before .before .before .before .before .before .if3 .left) (yes-eq _ _ _ _ _ (c .before .before .before .before .before .before .before .before .before .before .before .if4 .taken) (step _ _ _ _ (c .before .before .before .before .before .before .before .before .before .before .byte2 .ensures) (step _ _ _ _ (c .before .before .before .before .before .before .before .before .before .check-atomic .ensures) (step _ _ _ _ (c .before .before .before .before .before .before .before .before .played-with .ensures) (step _ _ _ _ (c .before .before .before .before .before .moved4 .ensures) (c .before .before .before .before .play .ensures)))))))))
-
-body-word-requires-3 : (t : ℕ) → body-lts.Need-word-requires-3 (body-env t) (body-at t) body.Post
-body-word-requires-3 t c κs = search needs
-
-body-moved-requires-5 : (t : ℕ) → body-lts.Need-moved-requires-5 (body-env t) (body-at t) body.Post
-body-moved-requires-5 t c κs = search needs
-
-body-all-requires : (t : ℕ) → body-lts.Need-all-requires (body-env t) (body-at t) body.Post
-body-all-requires t c κs = (omega (arith, c .before .before .before .before .before .before .before .before .before .before .before .before .before .before .before .pre .0), tt)
-
-body-same-length-7 : (t : ℕ) → body-lts.Need-same-length-7 (body-env t) (body-at t) body.Post
-body-same-length-7 t c = omega (arith, c .before .before .before .before .all .kept .1 .1 .0, c .before .before .before .before .all .kept .1 .1 .1 .0)
-
-body-same-length-8 : (t : ℕ) → body-lts.Need-same-length-8 (body-env t) (body-at t) body.Post
-body-same-length-8 t c = omega (arith, c .before .before .before .before .all .kept .1 .1 .0, c .before .before .before .before .all .kept .1 .1 .1 .0)
-
-body-returns-5 : (t : ℕ) → body-lts.Need-returns-5 (body-env t) (body-at t) body.Post
-unfolding bodyBy
-body-returns-5 t c = step _ _ _ _ (c .before .before .before .before .before .before .before .before .before .before .before .before .before .before .byte .ensures) (no-eq _ _ _ _ _ (c .before .before .before .before .before .before .before .before .before .before .before .before .before .if1 .left) (no-eq _ _ _ _ _ (c .before .before .before .before .before .before .before .before .before .before .before .before .if2 .left) (no-eq _ _ _ _ _ (c .before .before .before .before .before .before .before .before .before .before .before .if3 .left) (no-eq _ _ _ _ _ (c .before .before .before .before .before .before .before .before .before .before .if4 .left) (yes-eq _ _ _ _ _ (c .before .before .before .before .before .before .before .before .before .if5 .taken) (step _ _ _ _ (c .before .before .before .before .before .before .before .before .word3 .ensures) (step _ _ _ _ (c .before .before .before .before .before .moved5 .ensures) (c .before .before .before .before .all .ensures))))))))
-
-body-moved-requires-6 : (t : ℕ) → body-lts.Need-moved-requires-6 (body-env t) (body-at t) body.Post
-body-moved-requires-6 t c κs = search needs
-
-body-pred-requires : (t : ℕ) → body-lts.Need-pred-requires (body-env t) (body-at t) body.Post
-body-pred-requires t c κs = (omega (arith, c .before .before .before .before .before .before .before .before .before .before .before .before .before .before .before .pre .0), tt)
-
-body-make-requires-2 : (t : ℕ) → body-lts.Need-make-requires-2 (body-env t) (body-at t) body.Post
-body-make-requires-2 t c κs = search needs
-
-body-same-length-9 : (t : ℕ) → body-lts.Need-same-length-9 (body-env t) (body-at t) body.Post
-body-same-length-9 t c = omega (arith, c .before .before .make2 .kept .0, c .before .before .before .before .before .before .before .before .pred .kept .1 .1 .0, c .before .before .before .before .before .before .before .before .pred .kept .1 .1 .1 .0)
-
-body-same-length-10 : (t : ℕ) → body-lts.Need-same-length-10 (body-env t) (body-at t) body.Post
-body-same-length-10 t c = omega (arith, c .before .before .make2 .kept .0, c .before .before .before .before .before .before .before .before .pred .kept .1 .1 .0, c .before .before .before .before .before .before .before .before .pred .kept .1 .1 .1 .0)
-
-body-returns-6 : (t : ℕ) → body-lts.Need-returns-6 (body-env t) (body-at t) body.Post
-unfolding bodyBy
-body-returns-6 t c = step _ _ _ _ (c .before .before .before .before .before .before .before .before .before .before .before .before .before .before .before .before .before .before .byte .ensures) (no-eq _ _ _ _ _ (c .before .before .before .before .before .before .before .before .before .before .before .before .before .before .before .before .before .if1 .left) (no-eq _ _ _ _ _ (c .before .before .before .before .before .before .before .before .before .before .before .before .before .before .before .before .if2 .left) (no-eq _ _ _ _ _ (c .before .before .before .before .before .before .before .before .before .before .before .before .before .before .before .if3 .left) (no-eq _ _ _ _ _ (c .before .before .before .before .before .before .before .before .before .before .before .before .before .before .if4 .left) (no-eq _ _ _ _ _ (c .before .before .before .before .before .before .before .before .before .before .before .before .before .if5 .left) (yes-eq _ _ _ _ _ (c .before .before .before .before .before .before .before .before .before .before .before .before .if6 .taken) (step _ _ _ _ (c .before .before .before .before .before .before .before .before .before .moved6 .ensures) (step _ _ _ _ (c .before .before .before .before .before .before .before .before .pred .ensures) (c .before .before .make2 .ensures _)))))))))
+body-returns-4 t c = step _ _ _ _ (c .before .before .before .before .before .before .before .before .before .before .before .before .before .before .byte .ensures) (no-lt _ _ _ _ _ (c .before .before .before .before .before .before .before .before .before .before .before .before .before .if1 .left) (no-eq _ _ _ _ _ (c .before .before .before .before .before .before .before .before .before .before .before .before .if2 .left) (no-eq _ _ _ _ _ (c .before .before .before .before .before .before .before .before .before .before .before .if3 .left) (yes-eq _ _ _ _ _ (c .before .before .before .before .before .before .before .before .before .before .if4 .taken) (step _ _ _ _ (c .before .before .before .before .before .before .before .before .before .byte2 .ensures) (step _ _ _ _ (c .before .before .before .before .before .before .before .before .check-binary .ensures) (step _ _ _ _ (c .before .before .before .before .before .before .before .moved2 .ensures) (c .before .before .before .before .two .ensures))))))))
 
 body-byte-requires-3 : (t : ℕ) → body-lts.Need-byte-requires-3 (body-env t) (body-at t) body.Post
 body-byte-requires-3 t c κs = search needs
 
-body-check-binary-requires : (t : ℕ) → body-lts.Need-check-binary-requires (body-env t) (body-at t) body.Post
-body-check-binary-requires t c κs = search needs
+body-check-associative-requires : (t : ℕ) → body-lts.Need-check-associative-requires (body-env t) (body-at t) body.Post
+body-check-associative-requires t c κs = search needs
 
-body-moved-requires-7 : (t : ℕ) → body-lts.Need-moved-requires-7 (body-env t) (body-at t) body.Post
-body-moved-requires-7 t c κs = search needs
+body-word-requires : (t : ℕ) → body-lts.Need-word-requires (body-env t) (body-at t) body.Post
+body-word-requires t c κs = search needs
 
-body-two-requires : (t : ℕ) → body-lts.Need-two-requires (body-env t) (body-at t) body.Post
-body-two-requires t c κs = (omega (arith, c .before .before .before .before .before .before .before .before .before .before .before .before .before .before .before .before .before .before .pre .0), tt)
+body-moved-requires-3 : (t : ℕ) → body-lts.Need-moved-requires-3 (body-env t) (body-at t) body.Post
+body-moved-requires-3 t c κs = search needs
 
-body-same-length-11 : (t : ℕ) → body-lts.Need-same-length-11 (body-env t) (body-at t) body.Post
-body-same-length-11 t c = omega (arith, c .before .before .before .before .two .kept .1 .1 .0, c .before .before .before .before .two .kept .1 .1 .1 .0)
+body-all-requires : (t : ℕ) → body-lts.Need-all-requires (body-env t) (body-at t) body.Post
+body-all-requires t c κs = (omega (arith, c .before .before .before .before .before .before .before .before .before .before .before .before .before .before .before .before .before .pre .0), tt)
 
-body-same-length-12 : (t : ℕ) → body-lts.Need-same-length-12 (body-env t) (body-at t) body.Post
-body-same-length-12 t c = omega (arith, c .before .before .before .before .two .kept .1 .1 .0, c .before .before .before .before .two .kept .1 .1 .1 .0)
+body-same-length-9 : (t : ℕ) → body-lts.Need-same-length-9 (body-env t) (body-at t) body.Post
+body-same-length-9 t c = omega (arith, c .before .before .before .before .all .kept .1 .1 .0, c .before .before .before .before .all .kept .1 .1 .1 .0)
 
-body-returns-7 : (t : ℕ) → body-lts.Need-returns-7 (body-env t) (body-at t) body.Post
+body-same-length-10 : (t : ℕ) → body-lts.Need-same-length-10 (body-env t) (body-at t) body.Post
+body-same-length-10 t c = omega (arith, c .before .before .before .before .all .kept .1 .1 .0, c .before .before .before .before .all .kept .1 .1 .1 .0)
+
+body-returns-5 : (t : ℕ) → body-lts.Need-returns-5 (body-env t) (body-at t) body.Post
 unfolding bodyBy
-body-returns-7 t c = step _ _ _ _ (c .before .before .before .before .before .before .before .before .before .before .before .before .before .before .before .before .before .byte .ensures) (no-eq _ _ _ _ _ (c .before .before .before .before .before .before .before .before .before .before .before .before .before .before .before .before .if1 .left) (no-eq _ _ _ _ _ (c .before .before .before .before .before .before .before .before .before .before .before .before .before .before .before .if2 .left) (no-eq _ _ _ _ _ (c .before .before .before .before .before .before .before .before .before .before .before .before .before .before .if3 .left) (no-eq _ _ _ _ _ (c .before .before .before .before .before .before .before .before .before .before .before .before .before .if4 .left) (no-eq _ _ _ _ _ (c .before .before .before .before .before .before .before .before .before .before .before .before .if5 .left) (no-eq _ _ _ _ _ (c .before .before .before .before .before .before .before .before .before .before .before .if6 .left) (yes-eq _ _ _ _ _ (c .before .before .before .before .before .before .before .before .before .before .if7 .taken) (step _ _ _ _ (c .before .before .before .before .before .before .before .before .before .byte3 .ensures) (step _ _ _ _ (c .before .before .before .before .before .before .before .before .check-binary .ensures) (step _ _ _ _ (c .before .before .before .before .before .moved7 .ensures) (c .before .before .before .before .two .ensures)))))))))))
+body-returns-5 t c = step _ _ _ _ (c .before .before .before .before .before .before .before .before .before .before .before .before .before .before .before .before .byte .ensures) (no-lt _ _ _ _ _ (c .before .before .before .before .before .before .before .before .before .before .before .before .before .before .before .if1 .left) (no-eq _ _ _ _ _ (c .before .before .before .before .before .before .before .before .before .before .before .before .before .before .if2 .left) (no-eq _ _ _ _ _ (c .before .before .before .before .before .before .before .before .before .before .before .before .before .if3 .left) (no-eq _ _ _ _ _ (c .before .before .before .before .before .before .before .before .before .before .before .before .if4 .left) (yes-eq _ _ _ _ _ (c .before .before .before .before .before .before .before .before .before .before .before .if5 .taken) (step _ _ _ _ (c .before .before .before .before .before .before .before .before .before .before .byte3 .ensures) (step _ _ _ _ (c .before .before .before .before .before .before .before .before .before .check-associative .ensures) (step _ _ _ _ (c .before .before .before .before .before .before .before .before .word .ensures) (step _ _ _ _ (c .before .before .before .before .before .before .before .moved3 .ensures) (c .before .before .before .before .all .ensures))))))))))
 
 body-byte-requires-4 : (t : ℕ) → body-lts.Need-byte-requires-4 (body-env t) (body-at t) body.Post
 body-byte-requires-4 t c κs = search needs
 
-body-check-associative-requires : (t : ℕ) → body-lts.Need-check-associative-requires (body-env t) (body-at t) body.Post
-body-check-associative-requires t c κs = search needs
-
-body-word-requires-4 : (t : ℕ) → body-lts.Need-word-requires-4 (body-env t) (body-at t) body.Post
-body-word-requires-4 t c κs = search needs
-
-body-moved-requires-8 : (t : ℕ) → body-lts.Need-moved-requires-8 (body-env t) (body-at t) body.Post
-body-moved-requires-8 t c κs = search needs
-
-body-all-requires-2 : (t : ℕ) → body-lts.Need-all-requires-2 (body-env t) (body-at t) body.Post
-body-all-requires-2 t c κs = (omega (arith, c .before .before .before .before .before .before .before .before .before .before .before .before .before .before .before .before .before .before .before .before .pre .0), tt)
-
-body-same-length-13 : (t : ℕ) → body-lts.Need-same-length-13 (body-env t) (body-at t) body.Post
-body-same-length-13 t c = omega (arith, c .before .before .before .before .all2 .kept .1 .1 .0, c .before .before .before .before .all2 .kept .1 .1 .1 .0)
-
-body-same-length-14 : (t : ℕ) → body-lts.Need-same-length-14 (body-env t) (body-at t) body.Post
-body-same-length-14 t c = omega (arith, c .before .before .before .before .all2 .kept .1 .1 .0, c .before .before .before .before .all2 .kept .1 .1 .1 .0)
-
-body-returns-8 : (t : ℕ) → body-lts.Need-returns-8 (body-env t) (body-at t) body.Post
-unfolding bodyBy
-body-returns-8 t c = step _ _ _ _ (c .before .before .before .before .before .before .before .before .before .before .before .before .before .before .before .before .before .before .before .byte .ensures) (no-eq _ _ _ _ _ (c .before .before .before .before .before .before .before .before .before .before .before .before .before .before .before .before .before .before .if1 .left) (no-eq _ _ _ _ _ (c .before .before .before .before .before .before .before .before .before .before .before .before .before .before .before .before .before .if2 .left) (no-eq _ _ _ _ _ (c .before .before .before .before .before .before .before .before .before .before .before .before .before .before .before .before .if3 .left) (no-eq _ _ _ _ _ (c .before .before .before .before .before .before .before .before .before .before .before .before .before .before .before .if4 .left) (no-eq _ _ _ _ _ (c .before .before .before .before .before .before .before .before .before .before .before .before .before .before .if5 .left) (no-eq _ _ _ _ _ (c .before .before .before .before .before .before .before .before .before .before .before .before .before .if6 .left) (no-eq _ _ _ _ _ (c .before .before .before .before .before .before .before .before .before .before .before .before .if7 .left) (yes-eq _ _ _ _ _ (c .before .before .before .before .before .before .before .before .before .before .before .if8 .taken) (step _ _ _ _ (c .before .before .before .before .before .before .before .before .before .before .byte4 .ensures) (step _ _ _ _ (c .before .before .before .before .before .before .before .before .before .check-associative .ensures) (step _ _ _ _ (c .before .before .before .before .before .before .before .before .word4 .ensures) (step _ _ _ _ (c .before .before .before .before .before .moved8 .ensures) (c .before .before .before .before .all2 .ensures)))))))))))))
-
-body-byte-requires-5 : (t : ℕ) → body-lts.Need-byte-requires-5 (body-env t) (body-at t) body.Post
-body-byte-requires-5 t c κs = search needs
-
 body-check-unary-requires : (t : ℕ) → body-lts.Need-check-unary-requires (body-env t) (body-at t) body.Post
 body-check-unary-requires t c κs = search needs
 
-body-moved-requires-9 : (t : ℕ) → body-lts.Need-moved-requires-9 (body-env t) (body-at t) body.Post
-body-moved-requires-9 t c κs = search needs
+body-moved-requires-4 : (t : ℕ) → body-lts.Need-moved-requires-4 (body-env t) (body-at t) body.Post
+body-moved-requires-4 t c κs = search needs
 
 body-one-requires : (t : ℕ) → body-lts.Need-one-requires (body-env t) (body-at t) body.Post
-body-one-requires t c κs = (omega (arith, c .before .before .before .before .before .before .before .before .before .before .before .before .before .before .before .before .before .before .before .before .pre .0), tt)
+body-one-requires t c κs = (omega (arith, c .before .before .before .before .before .before .before .before .before .before .before .before .before .before .before .before .before .pre .0), tt)
 
-body-same-length-15 : (t : ℕ) → body-lts.Need-same-length-15 (body-env t) (body-at t) body.Post
-body-same-length-15 t c = omega (arith, c .before .before .before .before .one .kept .1 .1 .0, c .before .before .before .before .one .kept .1 .1 .1 .0)
+body-same-length-11 : (t : ℕ) → body-lts.Need-same-length-11 (body-env t) (body-at t) body.Post
+body-same-length-11 t c = omega (arith, c .before .before .before .before .one .kept .1 .1 .0, c .before .before .before .before .one .kept .1 .1 .1 .0)
 
-body-same-length-16 : (t : ℕ) → body-lts.Need-same-length-16 (body-env t) (body-at t) body.Post
-body-same-length-16 t c = omega (arith, c .before .before .before .before .one .kept .1 .1 .0, c .before .before .before .before .one .kept .1 .1 .1 .0)
+body-same-length-12 : (t : ℕ) → body-lts.Need-same-length-12 (body-env t) (body-at t) body.Post
+body-same-length-12 t c = omega (arith, c .before .before .before .before .one .kept .1 .1 .0, c .before .before .before .before .one .kept .1 .1 .1 .0)
 
-body-returns-9 : (t : ℕ) → body-lts.Need-returns-9 (body-env t) (body-at t) body.Post
+body-returns-6 : (t : ℕ) → body-lts.Need-returns-6 (body-env t) (body-at t) body.Post
 unfolding bodyBy
-body-returns-9 t c = step _ _ _ _ (c .before .before .before .before .before .before .before .before .before .before .before .before .before .before .before .before .before .before .before .byte .ensures) (no-eq _ _ _ _ _ (c .before .before .before .before .before .before .before .before .before .before .before .before .before .before .before .before .before .before .if1 .left) (no-eq _ _ _ _ _ (c .before .before .before .before .before .before .before .before .before .before .before .before .before .before .before .before .before .if2 .left) (no-eq _ _ _ _ _ (c .before .before .before .before .before .before .before .before .before .before .before .before .before .before .before .before .if3 .left) (no-eq _ _ _ _ _ (c .before .before .before .before .before .before .before .before .before .before .before .before .before .before .before .if4 .left) (no-eq _ _ _ _ _ (c .before .before .before .before .before .before .before .before .before .before .before .before .before .before .if5 .left) (no-eq _ _ _ _ _ (c .before .before .before .before .before .before .before .before .before .before .before .before .before .if6 .left) (no-eq _ _ _ _ _ (c .before .before .before .before .before .before .before .before .before .before .before .before .if7 .left) (no-eq _ _ _ _ _ (c .before .before .before .before .before .before .before .before .before .before .before .if8 .left) (yes-eq _ _ _ _ _ (c .before .before .before .before .before .before .before .before .before .before .if9 .taken) (step _ _ _ _ (c .before .before .before .before .before .before .before .before .before .byte5 .ensures) (step _ _ _ _ (c .before .before .before .before .before .before .before .before .check-unary .ensures) (step _ _ _ _ (c .before .before .before .before .before .moved9 .ensures) (c .before .before .before .before .one .ensures)))))))))))))
+body-returns-6 t c = step _ _ _ _ (c .before .before .before .before .before .before .before .before .before .before .before .before .before .before .before .before .byte .ensures) (no-lt _ _ _ _ _ (c .before .before .before .before .before .before .before .before .before .before .before .before .before .before .before .if1 .left) (no-eq _ _ _ _ _ (c .before .before .before .before .before .before .before .before .before .before .before .before .before .before .if2 .left) (no-eq _ _ _ _ _ (c .before .before .before .before .before .before .before .before .before .before .before .before .before .if3 .left) (no-eq _ _ _ _ _ (c .before .before .before .before .before .before .before .before .before .before .before .before .if4 .left) (no-eq _ _ _ _ _ (c .before .before .before .before .before .before .before .before .before .before .before .if5 .left) (yes-eq _ _ _ _ _ (c .before .before .before .before .before .before .before .before .before .before .if6 .taken) (step _ _ _ _ (c .before .before .before .before .before .before .before .before .before .byte4 .ensures) (step _ _ _ _ (c .before .before .before .before .before .before .before .before .check-unary .ensures) (step _ _ _ _ (c .before .before .before .before .before .before .before .moved4 .ensures) (c .before .before .before .before .one .ensures))))))))))
 
 body-quant-requires : (t : ℕ) → body-lts.Need-quant-requires (body-env t) (body-at t) body.Post
-body-quant-requires t c κs = (omega (arith, c .before .before .before .before .before .before .before .before .before .before .before .before .before .before .before .before .before .before .pre .0), tt)
+body-quant-requires t c κs = (omega (arith, c .before .before .before .before .before .before .before .before .before .before .before .before .before .before .before .pre .0), tt)
 
-body-same-length-17 : (t : ℕ) → body-lts.Need-same-length-17 (body-env t) (body-at t) body.Post
-body-same-length-17 t c = omega (arith, c .before .before .before .before .quant .kept .1 .1 .0, c .before .before .before .before .quant .kept .1 .1 .1 .0)
+body-same-length-13 : (t : ℕ) → body-lts.Need-same-length-13 (body-env t) (body-at t) body.Post
+body-same-length-13 t c = omega (arith, c .before .before .before .before .quant .kept .1 .1 .0, c .before .before .before .before .quant .kept .1 .1 .1 .0)
 
-body-same-length-18 : (t : ℕ) → body-lts.Need-same-length-18 (body-env t) (body-at t) body.Post
-body-same-length-18 t c = omega (arith, c .before .before .before .before .quant .kept .1 .1 .0, c .before .before .before .before .quant .kept .1 .1 .1 .0)
+body-same-length-14 : (t : ℕ) → body-lts.Need-same-length-14 (body-env t) (body-at t) body.Post
+body-same-length-14 t c = omega (arith, c .before .before .before .before .quant .kept .1 .1 .0, c .before .before .before .before .quant .kept .1 .1 .1 .0)
 
-body-returns-10 : (t : ℕ) → body-lts.Need-returns-10 (body-env t) (body-at t) body.Post
+body-returns-7 : (t : ℕ) → body-lts.Need-returns-7 (body-env t) (body-at t) body.Post
 unfolding bodyBy
-body-returns-10 t c = step _ _ _ _ (c .before .before .before .before .before .before .before .before .before .before .before .before .before .before .before .before .before .byte .ensures) (no-eq _ _ _ _ _ (c .before .before .before .before .before .before .before .before .before .before .before .before .before .before .before .before .if1 .left) (no-eq _ _ _ _ _ (c .before .before .before .before .before .before .before .before .before .before .before .before .before .before .before .if2 .left) (no-eq _ _ _ _ _ (c .before .before .before .before .before .before .before .before .before .before .before .before .before .before .if3 .left) (no-eq _ _ _ _ _ (c .before .before .before .before .before .before .before .before .before .before .before .before .before .if4 .left) (no-eq _ _ _ _ _ (c .before .before .before .before .before .before .before .before .before .before .before .before .if5 .left) (no-eq _ _ _ _ _ (c .before .before .before .before .before .before .before .before .before .before .before .if6 .left) (no-eq _ _ _ _ _ (c .before .before .before .before .before .before .before .before .before .before .if7 .left) (no-eq _ _ _ _ _ (c .before .before .before .before .before .before .before .before .before .if8 .left) (no-eq _ _ _ _ _ (c .before .before .before .before .before .before .before .before .if9 .left) (yes-eq _ _ _ _ _ (c .before .before .before .before .before .before .before .if10 .taken) (c .before .before .before .before .quant .ensures)))))))))))
+body-returns-7 t c = step _ _ _ _ (c .before .before .before .before .before .before .before .before .before .before .before .before .before .before .byte .ensures) (no-lt _ _ _ _ _ (c .before .before .before .before .before .before .before .before .before .before .before .before .before .if1 .left) (no-eq _ _ _ _ _ (c .before .before .before .before .before .before .before .before .before .before .before .before .if2 .left) (no-eq _ _ _ _ _ (c .before .before .before .before .before .before .before .before .before .before .before .if3 .left) (no-eq _ _ _ _ _ (c .before .before .before .before .before .before .before .before .before .before .if4 .left) (no-eq _ _ _ _ _ (c .before .before .before .before .before .before .before .before .before .if5 .left) (no-eq _ _ _ _ _ (c .before .before .before .before .before .before .before .before .if6 .left) (yes-eq _ _ _ _ _ (c .before .before .before .before .before .before .before .if7 .taken) (c .before .before .before .before .quant .ensures))))))))
 
-body-moved-requires-10 : (t : ℕ) → body-lts.Need-moved-requires-10 (body-env t) (body-at t) body.Post
-body-moved-requires-10 t c κs = search needs
+body-ascribed-requires : (t : ℕ) → body-lts.Need-ascribed-requires (body-env t) (body-at t) body.Post
+body-ascribed-requires t c κs = (omega (arith, c .before .before .before .before .before .before .before .before .before .before .before .before .before .before .before .before .pre .0), tt)
 
-body-expr-requires : (t : ℕ) → body-lts.Need-expr-requires (body-env t) (body-at t) body.Post
-body-expr-requires t c κs = (omega (arith, c .before .before .before .before .before .before .before .before .before .before .before .before .before .before .before .before .before .before .before .before .pre .0), tt)
+body-same-length-15 : (t : ℕ) → body-lts.Need-same-length-15 (body-env t) (body-at t) body.Post
+body-same-length-15 t c = omega (arith, c .before .before .before .before .ascribed .kept .1 .1 .0, c .before .before .before .before .ascribed .kept .1 .1 .1 .0)
 
-body-ascription-requires : (t : ℕ) → body-lts.Need-ascription-requires (body-env t) (body-at t) body.Post
-body-ascription-requires t c κs = search needs
+body-same-length-16 : (t : ℕ) → body-lts.Need-same-length-16 (body-env t) (body-at t) body.Post
+body-same-length-16 t c = omega (arith, c .before .before .before .before .ascribed .kept .1 .1 .0, c .before .before .before .before .ascribed .kept .1 .1 .1 .0)
 
-body-gave-requires : (t : ℕ) → body-lts.Need-gave-requires (body-env t) (body-at t) body.Post
-body-gave-requires t c κs = search needs
-
-body-same-length-19 : (t : ℕ) → body-lts.Need-same-length-19 (body-env t) (body-at t) body.Post
-body-same-length-19 t c = omega (arith, c .before .before .before .before .before .ascription .kept .1 .1 .0, c .before .before .before .before .before .ascription .kept .1 .1 .1 .0, c .before .before .before .before .before .before .before .before .before .before .before .before .before .expr .kept .1 .1 .0, c .before .before .before .before .before .before .before .before .before .before .before .before .before .expr .kept .1 .1 .1 .0)
-
-body-same-length-20 : (t : ℕ) → body-lts.Need-same-length-20 (body-env t) (body-at t) body.Post
-body-same-length-20 t c = omega (arith, c .before .before .before .before .before .ascription .kept .1 .1 .0, c .before .before .before .before .before .ascription .kept .1 .1 .1 .0, c .before .before .before .before .before .before .before .before .before .before .before .before .before .expr .kept .1 .1 .0, c .before .before .before .before .before .before .before .before .before .before .before .before .before .expr .kept .1 .1 .1 .0)
-
-body-returns-11 : (t : ℕ) → body-lts.Need-returns-11 (body-env t) (body-at t) body.Post
+body-returns-8 : (t : ℕ) → body-lts.Need-returns-8 (body-env t) (body-at t) body.Post
 unfolding bodyBy
-body-returns-11 t c = step _ _ _ _ (c .before .before .before .before .before .before .before .before .before .before .before .before .before .before .before .before .before .before .before .before .before .before .before .before .before .before .before .before .byte .ensures) (no-eq _ _ _ _ _ (c .before .before .before .before .before .before .before .before .before .before .before .before .before .before .before .before .before .before .before .before .before .before .before .before .before .before .before .if1 .left) (no-eq _ _ _ _ _ (c .before .before .before .before .before .before .before .before .before .before .before .before .before .before .before .before .before .before .before .before .before .before .before .before .before .before .if2 .left) (no-eq _ _ _ _ _ (c .before .before .before .before .before .before .before .before .before .before .before .before .before .before .before .before .before .before .before .before .before .before .before .before .before .if3 .left) (no-eq _ _ _ _ _ (c .before .before .before .before .before .before .before .before .before .before .before .before .before .before .before .before .before .before .before .before .before .before .before .before .if4 .left) (no-eq _ _ _ _ _ (c .before .before .before .before .before .before .before .before .before .before .before .before .before .before .before .before .before .before .before .before .before .before .before .if5 .left) (no-eq _ _ _ _ _ (c .before .before .before .before .before .before .before .before .before .before .before .before .before .before .before .before .before .before .before .before .before .before .if6 .left) (no-eq _ _ _ _ _ (c .before .before .before .before .before .before .before .before .before .before .before .before .before .before .before .before .before .before .before .before .before .if7 .left) (no-eq _ _ _ _ _ (c .before .before .before .before .before .before .before .before .before .before .before .before .before .before .before .before .before .before .before .before .if8 .left) (no-eq _ _ _ _ _ (c .before .before .before .before .before .before .before .before .before .before .before .before .before .before .before .before .before .before .before .if9 .left) (no-eq _ _ _ _ _ (c .before .before .before .before .before .before .before .before .before .before .before .before .before .before .before .before .before .before .if10 .left) (yes-eq _ _ _ _ _ (c .before .before .before .before .before .before .before .before .before .before .before .before .before .before .before .before .before .if11 .taken) (step _ _ _ _ (c .before .before .before .before .before .before .before .before .before .before .before .before .before .before .moved10 .ensures) (step _ _ _ _ (c .before .before .before .before .before .before .before .before .before .before .before .before .before .expr .ensures) (step _ _ _ _ (c .before .before .before .before .before .ascription .ensures) (step _ _ _ _ (c .gave .ensures) (refl))))))))))))))))
+body-returns-8 t c = step _ _ _ _ (c .before .before .before .before .before .before .before .before .before .before .before .before .before .before .before .byte .ensures) (no-lt _ _ _ _ _ (c .before .before .before .before .before .before .before .before .before .before .before .before .before .before .if1 .left) (no-eq _ _ _ _ _ (c .before .before .before .before .before .before .before .before .before .before .before .before .before .if2 .left) (no-eq _ _ _ _ _ (c .before .before .before .before .before .before .before .before .before .before .before .before .if3 .left) (no-eq _ _ _ _ _ (c .before .before .before .before .before .before .before .before .before .before .before .if4 .left) (no-eq _ _ _ _ _ (c .before .before .before .before .before .before .before .before .before .before .if5 .left) (no-eq _ _ _ _ _ (c .before .before .before .before .before .before .before .before .before .if6 .left) (no-eq _ _ _ _ _ (c .before .before .before .before .before .before .before .before .if7 .left) (yes-eq _ _ _ _ _ (c .before .before .before .before .before .before .before .if8 .taken) (c .before .before .before .before .ascribed .ensures)))))))))
 
 body-stopped-requires : (t : ℕ) → body-lts.Need-stopped-requires (body-env t) (body-at t) body.Post
 body-stopped-requires t c κs = search needs
 
-body-returns-12 : (t : ℕ) → body-lts.Need-returns-12 (body-env t) (body-at t) body.Post
+body-returns-9 : (t : ℕ) → body-lts.Need-returns-9 (body-env t) (body-at t) body.Post
 unfolding bodyBy
-body-returns-12 t c = step _ _ _ _ (c .before .before .before .before .before .before .before .before .before .before .before .before .byte .ensures) (no-eq _ _ _ _ _ (c .before .before .before .before .before .before .before .before .before .before .before .if1 .left) (no-eq _ _ _ _ _ (c .before .before .before .before .before .before .before .before .before .before .if2 .left) (no-eq _ _ _ _ _ (c .before .before .before .before .before .before .before .before .before .if3 .left) (no-eq _ _ _ _ _ (c .before .before .before .before .before .before .before .before .if4 .left) (no-eq _ _ _ _ _ (c .before .before .before .before .before .before .before .if5 .left) (no-eq _ _ _ _ _ (c .before .before .before .before .before .before .if6 .left) (no-eq _ _ _ _ _ (c .before .before .before .before .before .if7 .left) (no-eq _ _ _ _ _ (c .before .before .before .before .if8 .left) (no-eq _ _ _ _ _ (c .before .before .before .if9 .left) (no-eq _ _ _ _ _ (c .before .before .if10 .left) (no-eq _ _ _ _ _ (c .before .if11 .left) (step _ _ _ _ (c .stopped .ensures) (refl)))))))))))))
+body-returns-9 t c = step _ _ _ _ (c .before .before .before .before .before .before .before .before .before .byte .ensures) (no-lt _ _ _ _ _ (c .before .before .before .before .before .before .before .before .if1 .left) (no-eq _ _ _ _ _ (c .before .before .before .before .before .before .before .if2 .left) (no-eq _ _ _ _ _ (c .before .before .before .before .before .before .if3 .left) (no-eq _ _ _ _ _ (c .before .before .before .before .before .if4 .left) (no-eq _ _ _ _ _ (c .before .before .before .before .if5 .left) (no-eq _ _ _ _ _ (c .before .before .before .if6 .left) (no-eq _ _ _ _ _ (c .before .before .if7 .left) (no-eq _ _ _ _ _ (c .before .if8 .left) (step _ _ _ _ (c .stopped .ensures) (refl))))))))))
+
+counted-word-requires : (t : ℕ) → counted-lts.Need-word-requires (counted-env t) (counted-at t) counted.Post
+counted-word-requires t c κs = search needs
+
+counted-moved-requires : (t : ℕ) → counted-lts.Need-moved-requires (counted-env t) (counted-at t) counted.Post
+counted-moved-requires t c κs = search needs
+
+counted-all-requires : (t : ℕ) → counted-lts.Need-all-requires (counted-env t) (counted-at t) counted.Post
+counted-all-requires t c κs = (omega (arith, c .before .before .before .before .before .before .before .before .pre .0), tt)
+
+counted-same-length : (t : ℕ) → counted-lts.Need-same-length (counted-env t) (counted-at t) counted.Post
+counted-same-length t c = omega (arith, c .before .before .before .before .all .kept .1 .1 .0, c .before .before .before .before .all .kept .1 .1 .1 .0)
+
+counted-same-length-2 : (t : ℕ) → counted-lts.Need-same-length-2 (counted-env t) (counted-at t) counted.Post
+counted-same-length-2 t c = omega (arith, c .before .before .before .before .all .kept .1 .1 .0, c .before .before .before .before .all .kept .1 .1 .1 .0)
+
+counted-returns : (t : ℕ) → counted-lts.Need-returns (counted-env t) (counted-at t) counted.Post
+unfolding countedBy
+counted-returns t c = step _ _ _ _ (c .before .before .before .before .before .before .before .before .word .ensures) (step _ _ _ _ (c .before .before .before .before .before .before .before .moved .ensures) (c .before .before .before .before .all .ensures))
 
 abbrev each-Inv-loop : each-lts.InvT-loop
 each-Inv-loop s env work₀ output₀ size left plan n v₀ y₀ i₀ work output v y i = (childrenBy (exprOf left s env) plan i y (mach size v work output) ≡ childrenBy (exprOf left s env) plan i₀ y₀ (mach size v₀ work₀ output₀)) × (length work ≡ length work₀) × (length output ≡ length output₀)
@@ -662,7 +672,7 @@ pbody-same-length-2 t c = omega (arith, c .before .before .before .before .two .
 
 pbody-returns-3 : (t : ℕ) → pbody-lts.Need-returns-3 (pbody-env t) (pbody-at t) pbody.Post
 unfolding predBodyBy
-pbody-returns-3 t c = step _ _ _ _ (c .before .before .before .before .before .before .before .before .before .before .before .before .before .byte .ensures) (no-eq _ _ _ _ _ (c .before .before .before .before .before .before .before .before .before .before .before .before .if1 .left) (no-eq _ _ _ _ _ (c .before .before .before .before .before .before .before .before .before .before .before .if2 .left) (yes-eq _ _ _ _ _ (c .before .before .before .before .before .before .before .before .before .before .if3 .taken) (step _ _ _ _ (c .before .before .before .before .before .before .before .before .before .byte2 .ensures) (step _ _ _ _ (c .before .before .before .before .before .before .before .before .check-relational .ensures) (step _ _ _ _ (c .before .before .before .before .before .moved3 .ensures) (c .before .before .before .before .two .ensures)))))))
+pbody-returns-3 t c = step _ _ _ _ (c .before .before .before .before .before .before .before .before .before .before .before .before .before .byte .ensures) (no-eq _ _ _ _ _ (c .before .before .before .before .before .before .before .before .before .before .before .before .if1 .left) (no-eq _ _ _ _ _ (c .before .before .before .before .before .before .before .before .before .before .before .if2 .left) (yes-eq _ _ _ _ _ (c .before .before .before .before .before .before .before .before .before .before .if3 .taken) (step _ _ _ _ (c .before .before .before .before .before .before .before .before .before .byte2 .ensures) (step _ _ _ _ (c .before .before .before .before .before .before .before .before .check-relational .ensures) (step _ _ _ _ (c .before .before .before .before .before .before .before .moved3 .ensures) (c .before .before .before .before .two .ensures)))))))
 
 pbody-moved-requires-4 : (t : ℕ) → pbody-lts.Need-moved-requires-4 (pbody-env t) (pbody-at t) pbody.Post
 pbody-moved-requires-4 t c κs = search needs
@@ -715,33 +725,21 @@ pbody-returns-6 : (t : ℕ) → pbody-lts.Need-returns-6 (pbody-env t) (pbody-at
 unfolding predBodyBy
 pbody-returns-6 t c = step _ _ _ _ (c .before .before .before .before .before .before .before .before .before .before .before .before .before .before .byte .ensures) (no-eq _ _ _ _ _ (c .before .before .before .before .before .before .before .before .before .before .before .before .before .if1 .left) (no-eq _ _ _ _ _ (c .before .before .before .before .before .before .before .before .before .before .before .before .if2 .left) (no-eq _ _ _ _ _ (c .before .before .before .before .before .before .before .before .before .before .before .if3 .left) (no-eq _ _ _ _ _ (c .before .before .before .before .before .before .before .before .before .before .if4 .left) (no-eq _ _ _ _ _ (c .before .before .before .before .before .before .before .before .before .if5 .left) (yes-eq _ _ _ _ _ (c .before .before .before .before .before .before .before .before .if6 .taken) (step _ _ _ _ (c .before .before .before .before .before .moved6 .ensures) (c .before .before .before .before .pred .ensures))))))))
 
-pbody-byte-requires-3 : (t : ℕ) → pbody-lts.Need-byte-requires-3 (pbody-env t) (pbody-at t) pbody.Post
-pbody-byte-requires-3 t c κs = search needs
-
-pbody-moved-requires-7 : (t : ℕ) → pbody-lts.Need-moved-requires-7 (pbody-env t) (pbody-at t) pbody.Post
-pbody-moved-requires-7 t c κs = search needs
-
-pbody-declare-requires : (t : ℕ) → pbody-lts.Need-declare-requires (pbody-env t) (pbody-at t) pbody.Post
-pbody-declare-requires t c κs = search needs
-
-pbody-pred-requires-2 : (t : ℕ) → pbody-lts.Need-pred-requires-2 (pbody-env t) (pbody-at t) pbody.Post
-pbody-pred-requires-2 t c κs = (omega (arith, c .before .before .before .before .before .before .before .before .before .before .before .before .before .before .before .before .before .before .before .before .before .before .before .before .pre .0), tt)
-
-pbody-bounded-requires : (t : ℕ) → pbody-lts.Need-bounded-requires (pbody-env t) (pbody-at t) pbody.Post
-pbody-bounded-requires t c κs = search needs
+pbody-pquant-requires : (t : ℕ) → pbody-lts.Need-pquant-requires (pbody-env t) (pbody-at t) pbody.Post
+pbody-pquant-requires t c κs = (omega (arith, c .before .before .before .before .before .before .before .before .before .before .before .before .before .before .before .pre .0), tt)
 
 pbody-same-length-9 : (t : ℕ) → pbody-lts.Need-same-length-9 (pbody-env t) (pbody-at t) pbody.Post
-pbody-same-length-9 t c = omega (arith, c .before .before .before .before .before .pred2 .kept .1 .1 .0, c .before .before .before .before .before .pred2 .kept .1 .1 .1 .0, c .before .before .before .before .before .before .before .before .before .before .before .before .declare .kept .1 .1 .0, c .before .before .before .before .before .before .before .before .before .before .before .before .declare .kept .1 .1 .1 .0)
+pbody-same-length-9 t c = omega (arith, c .before .before .before .before .pquant .kept .1 .1 .0, c .before .before .before .before .pquant .kept .1 .1 .1 .0)
 
 pbody-same-length-10 : (t : ℕ) → pbody-lts.Need-same-length-10 (pbody-env t) (pbody-at t) pbody.Post
-pbody-same-length-10 t c = omega (arith, c .before .before .before .before .before .pred2 .kept .1 .1 .0, c .before .before .before .before .before .pred2 .kept .1 .1 .1 .0, c .before .before .before .before .before .before .before .before .before .before .before .before .declare .kept .1 .1 .0, c .before .before .before .before .before .before .before .before .before .before .before .before .declare .kept .1 .1 .1 .0)
+pbody-same-length-10 t c = omega (arith, c .before .before .before .before .pquant .kept .1 .1 .0, c .before .before .before .before .pquant .kept .1 .1 .1 .0)
 
 pbody-returns-7 : (t : ℕ) → pbody-lts.Need-returns-7 (pbody-env t) (pbody-at t) pbody.Post
 unfolding predBodyBy
-pbody-returns-7 t c = step _ _ _ _ (c .before .before .before .before .before .before .before .before .before .before .before .before .before .before .before .before .before .before .before .before .before .before .before .before .byte .ensures) (no-eq _ _ _ _ _ (c .before .before .before .before .before .before .before .before .before .before .before .before .before .before .before .before .before .before .before .before .before .before .before .if1 .left) (no-eq _ _ _ _ _ (c .before .before .before .before .before .before .before .before .before .before .before .before .before .before .before .before .before .before .before .before .before .before .if2 .left) (no-eq _ _ _ _ _ (c .before .before .before .before .before .before .before .before .before .before .before .before .before .before .before .before .before .before .before .before .before .if3 .left) (no-eq _ _ _ _ _ (c .before .before .before .before .before .before .before .before .before .before .before .before .before .before .before .before .before .before .before .before .if4 .left) (no-eq _ _ _ _ _ (c .before .before .before .before .before .before .before .before .before .before .before .before .before .before .before .before .before .before .before .if5 .left) (no-eq _ _ _ _ _ (c .before .before .before .before .before .before .before .before .before .before .before .before .before .before .before .before .before .before .if6 .left) (yes-eq _ _ _ _ _ (c .before .before .before .before .before .before .before .before .before .before .before .before .before .before .before .before .before .if7 .taken) (step _ _ _ _ (c .before .before .before .before .before .before .before .before .before .before .before .before .before .before .before .before .byte3 .ensures) (step _ _ _ _ (c .before .before .before .before .before .before .before .before .before .before .before .before .before .moved7 .ensures) (step _ _ _ _ (c .before .before .before .before .before .before .before .before .before .before .before .before .declare .ensures) (step _ _ _ _ (c .before .before .before .before .before .pred2 .ensures) (step _ _ _ _ (c .bounded .ensures) (refl)))))))))))))
+pbody-returns-7 t c = step _ _ _ _ (c .before .before .before .before .before .before .before .before .before .before .before .before .before .before .byte .ensures) (no-eq _ _ _ _ _ (c .before .before .before .before .before .before .before .before .before .before .before .before .before .if1 .left) (no-eq _ _ _ _ _ (c .before .before .before .before .before .before .before .before .before .before .before .before .if2 .left) (no-eq _ _ _ _ _ (c .before .before .before .before .before .before .before .before .before .before .before .if3 .left) (no-eq _ _ _ _ _ (c .before .before .before .before .before .before .before .before .before .before .if4 .left) (no-eq _ _ _ _ _ (c .before .before .before .before .before .before .before .before .before .if5 .left) (no-eq _ _ _ _ _ (c .before .before .before .before .before .before .before .before .if6 .left) (yes-eq _ _ _ _ _ (c .before .before .before .before .before .before .before .if7 .taken) (c .before .before .before .before .pquant .ensures))))))))
 
-pbody-moved-requires-8 : (t : ℕ) → pbody-lts.Need-moved-requires-8 (pbody-env t) (pbody-at t) pbody.Post
-pbody-moved-requires-8 t c κs = search needs
+pbody-moved-requires-7 : (t : ℕ) → pbody-lts.Need-moved-requires-7 (pbody-env t) (pbody-at t) pbody.Post
+pbody-moved-requires-7 t c κs = search needs
 
 pbody-one-requires : (t : ℕ) → pbody-lts.Need-one-requires (pbody-env t) (pbody-at t) pbody.Post
 pbody-one-requires t c κs = (omega (arith, c .before .before .before .before .before .before .before .before .before .before .before .before .before .before .before .before .before .pre .0), tt)
@@ -754,48 +752,36 @@ pbody-same-length-12 t c = omega (arith, c .before .before .before .before .one 
 
 pbody-returns-8 : (t : ℕ) → pbody-lts.Need-returns-8 (pbody-env t) (pbody-at t) pbody.Post
 unfolding predBodyBy
-pbody-returns-8 t c = step _ _ _ _ (c .before .before .before .before .before .before .before .before .before .before .before .before .before .before .before .before .byte .ensures) (no-eq _ _ _ _ _ (c .before .before .before .before .before .before .before .before .before .before .before .before .before .before .before .if1 .left) (no-eq _ _ _ _ _ (c .before .before .before .before .before .before .before .before .before .before .before .before .before .before .if2 .left) (no-eq _ _ _ _ _ (c .before .before .before .before .before .before .before .before .before .before .before .before .before .if3 .left) (no-eq _ _ _ _ _ (c .before .before .before .before .before .before .before .before .before .before .before .before .if4 .left) (no-eq _ _ _ _ _ (c .before .before .before .before .before .before .before .before .before .before .before .if5 .left) (no-eq _ _ _ _ _ (c .before .before .before .before .before .before .before .before .before .before .if6 .left) (no-eq _ _ _ _ _ (c .before .before .before .before .before .before .before .before .before .if7 .left) (yes-eq _ _ _ _ _ (c .before .before .before .before .before .before .before .before .if8 .taken) (step _ _ _ _ (c .before .before .before .before .before .moved8 .ensures) (c .before .before .before .before .one .ensures))))))))))
+pbody-returns-8 t c = step _ _ _ _ (c .before .before .before .before .before .before .before .before .before .before .before .before .before .before .before .before .byte .ensures) (no-eq _ _ _ _ _ (c .before .before .before .before .before .before .before .before .before .before .before .before .before .before .before .if1 .left) (no-eq _ _ _ _ _ (c .before .before .before .before .before .before .before .before .before .before .before .before .before .before .if2 .left) (no-eq _ _ _ _ _ (c .before .before .before .before .before .before .before .before .before .before .before .before .before .if3 .left) (no-eq _ _ _ _ _ (c .before .before .before .before .before .before .before .before .before .before .before .before .if4 .left) (no-eq _ _ _ _ _ (c .before .before .before .before .before .before .before .before .before .before .before .if5 .left) (no-eq _ _ _ _ _ (c .before .before .before .before .before .before .before .before .before .before .if6 .left) (no-eq _ _ _ _ _ (c .before .before .before .before .before .before .before .before .before .if7 .left) (yes-eq _ _ _ _ _ (c .before .before .before .before .before .before .before .before .if8 .taken) (step _ _ _ _ (c .before .before .before .before .before .before .before .moved7 .ensures) (c .before .before .before .before .one .ensures))))))))))
 
-pbody-word-requires-2 : (t : ℕ) → pbody-lts.Need-word-requires-2 (pbody-env t) (pbody-at t) pbody.Post
-pbody-word-requires-2 t c κs = search needs
-
-pbody-moved-requires-9 : (t : ℕ) → pbody-lts.Need-moved-requires-9 (pbody-env t) (pbody-at t) pbody.Post
-pbody-moved-requires-9 t c κs = search needs
-
-pbody-all-requires : (t : ℕ) → pbody-lts.Need-all-requires (pbody-env t) (pbody-at t) pbody.Post
-pbody-all-requires t c κs = (omega (arith, c .before .before .before .before .before .before .before .before .before .before .before .before .before .before .before .before .before .before .before .pre .0), tt)
+pbody-counted-requires : (t : ℕ) → pbody-lts.Need-counted-requires (pbody-env t) (pbody-at t) pbody.Post
+pbody-counted-requires t c κs = (omega (arith, c .before .before .before .before .before .before .before .before .before .before .before .before .before .before .before .before .before .pre .0), tt)
 
 pbody-same-length-13 : (t : ℕ) → pbody-lts.Need-same-length-13 (pbody-env t) (pbody-at t) pbody.Post
-pbody-same-length-13 t c = omega (arith, c .before .before .before .before .all .kept .1 .1 .0, c .before .before .before .before .all .kept .1 .1 .1 .0)
+pbody-same-length-13 t c = omega (arith, c .before .before .before .before .counted .kept .1 .1 .0, c .before .before .before .before .counted .kept .1 .1 .1 .0)
 
 pbody-same-length-14 : (t : ℕ) → pbody-lts.Need-same-length-14 (pbody-env t) (pbody-at t) pbody.Post
-pbody-same-length-14 t c = omega (arith, c .before .before .before .before .all .kept .1 .1 .0, c .before .before .before .before .all .kept .1 .1 .1 .0)
+pbody-same-length-14 t c = omega (arith, c .before .before .before .before .counted .kept .1 .1 .0, c .before .before .before .before .counted .kept .1 .1 .1 .0)
 
 pbody-returns-9 : (t : ℕ) → pbody-lts.Need-returns-9 (pbody-env t) (pbody-at t) pbody.Post
 unfolding predBodyBy
-pbody-returns-9 t c = step _ _ _ _ (c .before .before .before .before .before .before .before .before .before .before .before .before .before .before .before .before .before .before .byte .ensures) (no-eq _ _ _ _ _ (c .before .before .before .before .before .before .before .before .before .before .before .before .before .before .before .before .before .if1 .left) (no-eq _ _ _ _ _ (c .before .before .before .before .before .before .before .before .before .before .before .before .before .before .before .before .if2 .left) (no-eq _ _ _ _ _ (c .before .before .before .before .before .before .before .before .before .before .before .before .before .before .before .if3 .left) (no-eq _ _ _ _ _ (c .before .before .before .before .before .before .before .before .before .before .before .before .before .before .if4 .left) (no-eq _ _ _ _ _ (c .before .before .before .before .before .before .before .before .before .before .before .before .before .if5 .left) (no-eq _ _ _ _ _ (c .before .before .before .before .before .before .before .before .before .before .before .before .if6 .left) (no-eq _ _ _ _ _ (c .before .before .before .before .before .before .before .before .before .before .before .if7 .left) (no-eq _ _ _ _ _ (c .before .before .before .before .before .before .before .before .before .before .if8 .left) (yes-eq _ _ _ _ _ (c .before .before .before .before .before .before .before .before .before .if9 .taken) (step _ _ _ _ (c .before .before .before .before .before .before .before .before .word2 .ensures) (step _ _ _ _ (c .before .before .before .before .before .moved9 .ensures) (c .before .before .before .before .all .ensures))))))))))))
+pbody-returns-9 t c = step _ _ _ _ (c .before .before .before .before .before .before .before .before .before .before .before .before .before .before .before .before .byte .ensures) (no-eq _ _ _ _ _ (c .before .before .before .before .before .before .before .before .before .before .before .before .before .before .before .if1 .left) (no-eq _ _ _ _ _ (c .before .before .before .before .before .before .before .before .before .before .before .before .before .before .if2 .left) (no-eq _ _ _ _ _ (c .before .before .before .before .before .before .before .before .before .before .before .before .before .if3 .left) (no-eq _ _ _ _ _ (c .before .before .before .before .before .before .before .before .before .before .before .before .if4 .left) (no-eq _ _ _ _ _ (c .before .before .before .before .before .before .before .before .before .before .before .if5 .left) (no-eq _ _ _ _ _ (c .before .before .before .before .before .before .before .before .before .before .if6 .left) (no-eq _ _ _ _ _ (c .before .before .before .before .before .before .before .before .before .if7 .left) (no-eq _ _ _ _ _ (c .before .before .before .before .before .before .before .before .if8 .left) (yes-eq _ _ _ _ _ (c .before .before .before .before .before .before .before .if9 .taken) (c .before .before .before .before .counted .ensures))))))))))
 
-pbody-word-requires-3 : (t : ℕ) → pbody-lts.Need-word-requires-3 (pbody-env t) (pbody-at t) pbody.Post
-pbody-word-requires-3 t c κs = search needs
-
-pbody-moved-requires-10 : (t : ℕ) → pbody-lts.Need-moved-requires-10 (pbody-env t) (pbody-at t) pbody.Post
-pbody-moved-requires-10 t c κs = search needs
-
-pbody-all-requires-2 : (t : ℕ) → pbody-lts.Need-all-requires-2 (pbody-env t) (pbody-at t) pbody.Post
-pbody-all-requires-2 t c κs = (omega (arith, c .before .before .before .before .before .before .before .before .before .before .before .before .before .before .before .before .before .before .before .before .pre .0), tt)
+pbody-counted-requires-2 : (t : ℕ) → pbody-lts.Need-counted-requires-2 (pbody-env t) (pbody-at t) pbody.Post
+pbody-counted-requires-2 t c κs = (omega (arith, c .before .before .before .before .before .before .before .before .before .before .before .before .before .before .before .before .before .before .pre .0), tt)
 
 pbody-list-requires : (t : ℕ) → pbody-lts.Need-list-requires (pbody-env t) (pbody-at t) pbody.Post
 pbody-list-requires t c κs = search needs
 
 pbody-same-length-15 : (t : ℕ) → pbody-lts.Need-same-length-15 (pbody-env t) (pbody-at t) pbody.Post
-pbody-same-length-15 t c = omega (arith, c .before .before .list .kept .0, c .before .before .before .before .before .before .before .before .all2 .kept .1 .1 .0, c .before .before .before .before .before .before .before .before .all2 .kept .1 .1 .1 .0)
+pbody-same-length-15 t c = omega (arith, c .before .before .list .kept .0, c .before .before .before .before .before .before .before .before .counted2 .kept .1 .1 .0, c .before .before .before .before .before .before .before .before .counted2 .kept .1 .1 .1 .0)
 
 pbody-same-length-16 : (t : ℕ) → pbody-lts.Need-same-length-16 (pbody-env t) (pbody-at t) pbody.Post
-pbody-same-length-16 t c = omega (arith, c .before .before .list .kept .0, c .before .before .before .before .before .before .before .before .all2 .kept .1 .1 .0, c .before .before .before .before .before .before .before .before .all2 .kept .1 .1 .1 .0)
+pbody-same-length-16 t c = omega (arith, c .before .before .list .kept .0, c .before .before .before .before .before .before .before .before .counted2 .kept .1 .1 .0, c .before .before .before .before .before .before .before .before .counted2 .kept .1 .1 .1 .0)
 
 pbody-returns-10 : (t : ℕ) → pbody-lts.Need-returns-10 (pbody-env t) (pbody-at t) pbody.Post
 unfolding predBodyBy
-pbody-returns-10 t c = step _ _ _ _ (c .before .before .before .before .before .before .before .before .before .before .before .before .before .before .before .before .before .before .before .before .before .before .before .byte .ensures) (no-eq _ _ _ _ _ (c .before .before .before .before .before .before .before .before .before .before .before .before .before .before .before .before .before .before .before .before .before .before .if1 .left) (no-eq _ _ _ _ _ (c .before .before .before .before .before .before .before .before .before .before .before .before .before .before .before .before .before .before .before .before .before .if2 .left) (no-eq _ _ _ _ _ (c .before .before .before .before .before .before .before .before .before .before .before .before .before .before .before .before .before .before .before .before .if3 .left) (no-eq _ _ _ _ _ (c .before .before .before .before .before .before .before .before .before .before .before .before .before .before .before .before .before .before .before .if4 .left) (no-eq _ _ _ _ _ (c .before .before .before .before .before .before .before .before .before .before .before .before .before .before .before .before .before .before .if5 .left) (no-eq _ _ _ _ _ (c .before .before .before .before .before .before .before .before .before .before .before .before .before .before .before .before .before .if6 .left) (no-eq _ _ _ _ _ (c .before .before .before .before .before .before .before .before .before .before .before .before .before .before .before .before .if7 .left) (no-eq _ _ _ _ _ (c .before .before .before .before .before .before .before .before .before .before .before .before .before .before .before .if8 .left) (no-eq _ _ _ _ _ (c .before .before .before .before .before .before .before .before .before .before .before .before .before .before .if9 .left) (yes-eq _ _ _ _ _ (c .before .before .before .before .before .before .before .before .before .before .before .before .before .if10 .taken) (step _ _ _ _ (c .before .before .before .before .before .before .before .before .before .before .before .before .word3 .ensures) (step _ _ _ _ (c .before .before .before .before .before .before .before .before .before .moved10 .ensures) (step _ _ _ _ (c .before .before .before .before .before .before .before .before .all2 .ensures) (c .before .before .list .ensures _ _))))))))))))))
+pbody-returns-10 t c = step _ _ _ _ (c .before .before .before .before .before .before .before .before .before .before .before .before .before .before .before .before .before .before .before .before .before .byte .ensures) (no-eq _ _ _ _ _ (c .before .before .before .before .before .before .before .before .before .before .before .before .before .before .before .before .before .before .before .before .if1 .left) (no-eq _ _ _ _ _ (c .before .before .before .before .before .before .before .before .before .before .before .before .before .before .before .before .before .before .before .if2 .left) (no-eq _ _ _ _ _ (c .before .before .before .before .before .before .before .before .before .before .before .before .before .before .before .before .before .before .if3 .left) (no-eq _ _ _ _ _ (c .before .before .before .before .before .before .before .before .before .before .before .before .before .before .before .before .before .if4 .left) (no-eq _ _ _ _ _ (c .before .before .before .before .before .before .before .before .before .before .before .before .before .before .before .before .if5 .left) (no-eq _ _ _ _ _ (c .before .before .before .before .before .before .before .before .before .before .before .before .before .before .before .if6 .left) (no-eq _ _ _ _ _ (c .before .before .before .before .before .before .before .before .before .before .before .before .before .before .if7 .left) (no-eq _ _ _ _ _ (c .before .before .before .before .before .before .before .before .before .before .before .before .before .if8 .left) (no-eq _ _ _ _ _ (c .before .before .before .before .before .before .before .before .before .before .before .before .if9 .left) (yes-eq _ _ _ _ _ (c .before .before .before .before .before .before .before .before .before .before .before .if10 .taken) (step _ _ _ _ (c .before .before .before .before .before .before .before .before .counted2 .ensures) (c .before .before .list .ensures _ _))))))))))))
 
 pbody-stopped-requires : (t : ℕ) → pbody-lts.Need-stopped-requires (pbody-env t) (pbody-at t) pbody.Post
 pbody-stopped-requires t c κs = search needs
@@ -803,6 +789,31 @@ pbody-stopped-requires t c κs = search needs
 pbody-returns-11 : (t : ℕ) → pbody-lts.Need-returns-11 (pbody-env t) (pbody-at t) pbody.Post
 unfolding predBodyBy
 pbody-returns-11 t c = step _ _ _ _ (c .before .before .before .before .before .before .before .before .before .before .before .byte .ensures) (no-eq _ _ _ _ _ (c .before .before .before .before .before .before .before .before .before .before .if1 .left) (no-eq _ _ _ _ _ (c .before .before .before .before .before .before .before .before .before .if2 .left) (no-eq _ _ _ _ _ (c .before .before .before .before .before .before .before .before .if3 .left) (no-eq _ _ _ _ _ (c .before .before .before .before .before .before .before .if4 .left) (no-eq _ _ _ _ _ (c .before .before .before .before .before .before .if5 .left) (no-eq _ _ _ _ _ (c .before .before .before .before .before .if6 .left) (no-eq _ _ _ _ _ (c .before .before .before .before .if7 .left) (no-eq _ _ _ _ _ (c .before .before .before .if8 .left) (no-eq _ _ _ _ _ (c .before .before .if9 .left) (no-eq _ _ _ _ _ (c .before .if10 .left) (step _ _ _ _ (c .stopped .ensures) (refl))))))))))))
+
+pquant-byte-requires : (t : ℕ) → pquant-lts.Need-byte-requires (pquant-env t) (pquant-at t) pquant.Post
+pquant-byte-requires t c κs = search needs
+
+pquant-moved-requires : (t : ℕ) → pquant-lts.Need-moved-requires (pquant-env t) (pquant-at t) pquant.Post
+pquant-moved-requires t c κs = search needs
+
+pquant-declare-requires : (t : ℕ) → pquant-lts.Need-declare-requires (pquant-env t) (pquant-at t) pquant.Post
+pquant-declare-requires t c κs = search needs
+
+pquant-pred-requires : (t : ℕ) → pquant-lts.Need-pred-requires (pquant-env t) (pquant-at t) pquant.Post
+pquant-pred-requires t c κs = (omega (arith, c .before .before .before .before .before .before .before .before .before .before .before .before .before .before .before .pre .0), tt)
+
+pquant-bounded-requires : (t : ℕ) → pquant-lts.Need-bounded-requires (pquant-env t) (pquant-at t) pquant.Post
+pquant-bounded-requires t c κs = search needs
+
+pquant-same-length : (t : ℕ) → pquant-lts.Need-same-length (pquant-env t) (pquant-at t) pquant.Post
+pquant-same-length t c = omega (arith, c .before .before .before .before .before .pred .kept .1 .1 .0, c .before .before .before .before .before .pred .kept .1 .1 .1 .0, c .before .before .before .before .before .before .before .before .before .before .before .before .declare .kept .1 .1 .0, c .before .before .before .before .before .before .before .before .before .before .before .before .declare .kept .1 .1 .1 .0)
+
+pquant-same-length-2 : (t : ℕ) → pquant-lts.Need-same-length-2 (pquant-env t) (pquant-at t) pquant.Post
+pquant-same-length-2 t c = omega (arith, c .before .before .before .before .before .pred .kept .1 .1 .0, c .before .before .before .before .before .pred .kept .1 .1 .1 .0, c .before .before .before .before .before .before .before .before .before .before .before .before .declare .kept .1 .1 .0, c .before .before .before .before .before .before .before .before .before .before .before .before .declare .kept .1 .1 .1 .0)
+
+pquant-returns : (t : ℕ) → pquant-lts.Need-returns (pquant-env t) (pquant-at t) pquant.Post
+unfolding predQuantBy
+pquant-returns t c = step _ _ _ _ (c .before .before .before .before .before .before .before .before .before .before .before .before .before .before .before .before .byte .ensures) (step _ _ _ _ (c .before .before .before .before .before .before .before .before .before .before .before .before .before .moved .ensures) (step _ _ _ _ (c .before .before .before .before .before .before .before .before .before .before .before .before .declare .ensures) (step _ _ _ _ (c .before .before .before .before .before .pred .ensures) (step _ _ _ _ (c .bounded .ensures) (refl)))))
 
 pred-paid-requires : (t : ℕ) → pred-lts.Need-paid-requires (pred-env t) (pred-at t) pred.Post
 pred-paid-requires t c κs = search needs
@@ -920,16 +931,20 @@ two-returns : (t : ℕ) → two-lts.Need-returns (two-env t) (two-at t) two.Post
 unfolding twoBy
 two-returns t c = step _ _ _ _ (c .before .before .before .before .before .before .before .before .before .before .before .before .before .before .before .before .before .before .before .before .before .before .before .expr .ensures) (step _ _ _ _ (c .before .before .before .before .before .before .before .before .before .before .before .before .before .before .expr2 .ensures) (step _ _ _ _ (c .before .before .before .before .before .before .before .played-with .ensures) (c .before .before .before .before .play .ensures)))
 
-pub +all+body+each+explicit+expr+one+pbody+pred+preds+quant+two-spec : {M : Type 1} → statement M
-+all+body+each+explicit+expr+one+pbody+pred+preds+quant+two-spec =
+pub +all+ascribed+body+counted+each+explicit+expr+one+pbody+pquant+pred+preds+quant+two-spec :
+    {M : Type 1} → statement M
++all+ascribed+body+counted+each+explicit+expr+one+pbody+pquant+pred+preds+quant+two-spec =
     close
     μ-all
+    μ-ascribed
     μ-body
+    μ-counted
     μ-each
     μ-explicit
     μ-expr
     μ-one
     μ-pbody
+    μ-pquant
     μ-pred
     μ-preds
     μ-quant
@@ -945,80 +960,75 @@ pub +all+body+each+explicit+expr+one+pbody+pred+preds+quant+two-spec : {M : Type
     (all-same-length t)
     (all-same-length-2 t)
     (all-returns t))
+    (λ t. ascribed-lts.spec (ascribed-env t)
+    (ascribed-at t)
+    ascribed.Post
+    (ascribed-moved-requires t)
+    (ascribed-expr-requires t)
+    (ascribed-ascription-requires t)
+    (ascribed-gave-requires t)
+    (ascribed-same-length t)
+    (ascribed-same-length-2 t)
+    (ascribed-returns t))
     (λ t. body-lts.spec (body-env t)
     (body-at t)
     body.Post
     (body-byte-requires t)
-    (body-word-requires t)
-    (body-moved-requires t)
-    (body-free-identifier-requires t)
+    (body-leaf-requires t)
     (body-same-length t)
-    (body-returns t)
-    (body-word-requires-2 t)
-    (body-moved-requires-2 t)
-    (body-bound-identifier-requires t)
     (body-same-length-2 t)
+    (body-returns t)
+    (body-counted-requires t)
     (body-same-length-3 t)
-    (body-returns-2 t)
-    (body-moved-requires-3 t)
-    (body-make-requires t)
     (body-same-length-4 t)
-    (body-returns-3 t)
-    (body-byte-requires-2 t)
-    (body-check-atomic-requires t)
-    (body-played-with-requires t)
-    (body-moved-requires-4 t)
-    (body-play-requires t)
+    (body-returns-2 t)
+    (body-moved-requires t)
+    (body-pred-requires t)
+    (body-make-requires t)
     (body-same-length-5 t)
     (body-same-length-6 t)
-    (body-returns-4 t)
-    (body-word-requires-3 t)
-    (body-moved-requires-5 t)
-    (body-all-requires t)
+    (body-returns-3 t)
+    (body-byte-requires-2 t)
+    (body-check-binary-requires t)
+    (body-moved-requires-2 t)
+    (body-two-requires t)
     (body-same-length-7 t)
     (body-same-length-8 t)
-    (body-returns-5 t)
-    (body-moved-requires-6 t)
-    (body-pred-requires t)
-    (body-make-requires-2 t)
+    (body-returns-4 t)
+    (body-byte-requires-3 t)
+    (body-check-associative-requires t)
+    (body-word-requires t)
+    (body-moved-requires-3 t)
+    (body-all-requires t)
     (body-same-length-9 t)
     (body-same-length-10 t)
-    (body-returns-6 t)
-    (body-byte-requires-3 t)
-    (body-check-binary-requires t)
-    (body-moved-requires-7 t)
-    (body-two-requires t)
+    (body-returns-5 t)
+    (body-byte-requires-4 t)
+    (body-check-unary-requires t)
+    (body-moved-requires-4 t)
+    (body-one-requires t)
     (body-same-length-11 t)
     (body-same-length-12 t)
-    (body-returns-7 t)
-    (body-byte-requires-4 t)
-    (body-check-associative-requires t)
-    (body-word-requires-4 t)
-    (body-moved-requires-8 t)
-    (body-all-requires-2 t)
+    (body-returns-6 t)
+    (body-quant-requires t)
     (body-same-length-13 t)
     (body-same-length-14 t)
-    (body-returns-8 t)
-    (body-byte-requires-5 t)
-    (body-check-unary-requires t)
-    (body-moved-requires-9 t)
-    (body-one-requires t)
+    (body-returns-7 t)
+    (body-ascribed-requires t)
     (body-same-length-15 t)
     (body-same-length-16 t)
-    (body-returns-9 t)
-    (body-quant-requires t)
-    (body-same-length-17 t)
-    (body-same-length-18 t)
-    (body-returns-10 t)
-    (body-moved-requires-10 t)
-    (body-expr-requires t)
-    (body-ascription-requires t)
-    (body-gave-requires t)
-    (body-same-length-19 t)
-    (body-same-length-20 t)
-    (body-returns-11 t)
+    (body-returns-8 t)
     (body-stopped-requires t)
-    (body-returns-12 t))
+    (body-returns-9 t))
+    (λ t. counted-lts.spec (counted-env t)
+    (counted-at t)
+    counted.Post
+    (counted-word-requires t)
+    (counted-moved-requires t)
+    (counted-all-requires t)
+    (counted-same-length t)
+    (counted-same-length-2 t)
+    (counted-returns t))
     (λ t. each-lts.spec (each-env t)
     (each-at t)
     each.Post
@@ -1113,34 +1123,37 @@ pub +all+body+each+explicit+expr+one+pbody+pred+preds+quant+two-spec : {M : Type
     (pbody-same-length-7 t)
     (pbody-same-length-8 t)
     (pbody-returns-6 t)
-    (pbody-byte-requires-3 t)
-    (pbody-moved-requires-7 t)
-    (pbody-declare-requires t)
-    (pbody-pred-requires-2 t)
-    (pbody-bounded-requires t)
+    (pbody-pquant-requires t)
     (pbody-same-length-9 t)
     (pbody-same-length-10 t)
     (pbody-returns-7 t)
-    (pbody-moved-requires-8 t)
+    (pbody-moved-requires-7 t)
     (pbody-one-requires t)
     (pbody-same-length-11 t)
     (pbody-same-length-12 t)
     (pbody-returns-8 t)
-    (pbody-word-requires-2 t)
-    (pbody-moved-requires-9 t)
-    (pbody-all-requires t)
+    (pbody-counted-requires t)
     (pbody-same-length-13 t)
     (pbody-same-length-14 t)
     (pbody-returns-9 t)
-    (pbody-word-requires-3 t)
-    (pbody-moved-requires-10 t)
-    (pbody-all-requires-2 t)
+    (pbody-counted-requires-2 t)
     (pbody-list-requires t)
     (pbody-same-length-15 t)
     (pbody-same-length-16 t)
     (pbody-returns-10 t)
     (pbody-stopped-requires t)
     (pbody-returns-11 t))
+    (λ t. pquant-lts.spec (pquant-env t)
+    (pquant-at t)
+    pquant.Post
+    (pquant-byte-requires t)
+    (pquant-moved-requires t)
+    (pquant-declare-requires t)
+    (pquant-pred-requires t)
+    (pquant-bounded-requires t)
+    (pquant-same-length t)
+    (pquant-same-length-2 t)
+    (pquant-returns t))
     (λ t. pred-lts.spec (pred-env t)
     (pred-at t)
     pred.Post
