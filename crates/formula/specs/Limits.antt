@@ -23,3 +23,33 @@ max-opened = 64
 -- the names that an environment can hold
 abbrev pub max-names : ℕ
 max-names = 256
+
+-- ---- operators of a kind of record
+
+abbrev pub atomic-operators : ℕ
+atomic-operators = 12
+
+abbrev pub binary-operators : ℕ
+binary-operators = 27
+
+abbrev pub associative-operators : ℕ
+associative-operators = 7
+
+abbrev pub unary-operators : ℕ
+unary-operators = 11
+
+abbrev pub quantifiers : ℕ
+quantifiers = 3
+
+abbrev pub relations : ℕ
+relations = 12
+
+-- ---- the fewest children
+
+-- of an extension and of a multiple predicate
+abbrev pub least-listed : ℕ
+least-listed = 1
+
+-- of an associative expression and of a junction
+abbrev pub least-joined : ℕ
+least-joined = 2
