@@ -144,9 +144,9 @@ module _ (names : ℕ) (s cells : List ℕ) (p : Place) where
     unfolding enteredAt onWord
     entered-again h = rw (w, ne-eqb (getD cells n 0) 0 h)
 
-    pub entered-by : getD cells n 0 ≡ 0 → (x : TypeEnd) → endOf (typeAt max-depth names s (e .0)) ≡ x → enteredBy n e x ≡ enteredAt names s cells p
+    pub entered-by : getD cells n 0 ≡ 0 → (x : TypeEnd) (left : ℕ) → endOf (typeAt left names s (e .0)) ≡ x → left ≡ max-depth → enteredBy n e x ≡ enteredAt names s cells p
     unfolding enteredAt onWord
-    entered-by h x k = rw (w, eq-eqb (getD cells n 0) 0 h, k)
+    entered-by h x left k d = rw (w, eq-eqb (getD cells n 0) 0 h, ap (λ (l : ℕ). endOf (typeAt l names s (e .0))) (sym d) ∙ k)
 
 -- ---- the loop
 

@@ -23,6 +23,7 @@ use Rattle.formula.specs.declared.PredAt.{PredAt}
 use Rattle.formula.specs.declared.PredAt.the-variants as P
 use Rattle.formula.specs.declared.DeclAt.{DeclAt}
 use Rattle.formula.specs.declared.DeclAt.the-variants as D
+use Rattle.formula.specs.Counts.{atomic-operators, binary-operators, associative-operators, unary-operators, quantifiers, relations, least-listed, least-joined}
 
 abbrev pub pick : {A : Type 0} → Bool → A → A → A
 pick true a b = a
@@ -80,13 +81,13 @@ exprBody names s bare k p =
     pick (eqb k 0x01) (onWord E.Wrong (nameAt names s p) λ n e. E.Is (Free (name n) e))
     (pick (eqb k 0x02) (onWord E.Wrong (wordAt s p) λ i e. E.Is (Bound i e))
     (pick (eqb k 0x03) (E.Is (Literal p))
-    (pick (eqb k 0x04) (onByte E.Wrong (opAt 12 s p) λ o e. E.Is (Atomic o e))
-    (pick (eqb k 0x05) (onWord E.Wrong (countAt 1 s p) λ n e. E.Is (Extension n e))
+    (pick (eqb k 0x04) (onByte E.Wrong (opAt atomic-operators s p) λ o e. E.Is (Atomic o e))
+    (pick (eqb k 0x05) (onWord E.Wrong (countAt least-listed s p) λ n e. E.Is (Extension n e))
     (pick (eqb k 0x06) (E.Is (Truth p))
-    (pick (eqb k 0x07) (onByte E.Wrong (opAt 27 s p) λ o e. E.Is (Binary o e))
-    (pick (eqb k 0x08) (onByte E.Wrong (opAt 7 s p) λ o q. onWord E.Wrong (countAt 2 s q) λ n e. E.Is (Associative o n e))
-    (pick (eqb k 0x09) (onByte E.Wrong (opAt 11 s p) λ o e. E.Is (Unary o e))
-    (pick (eqb k 0x0A) (onByte E.Wrong (opAt 3 s p) λ o q. onByte E.Wrong (fewAt s q) λ n e. E.Is (Quantified o n e))
+    (pick (eqb k 0x07) (onByte E.Wrong (opAt binary-operators s p) λ o e. E.Is (Binary o e))
+    (pick (eqb k 0x08) (onByte E.Wrong (opAt associative-operators s p) λ o q. onWord E.Wrong (countAt least-joined s q) λ n e. E.Is (Associative o n e))
+    (pick (eqb k 0x09) (onByte E.Wrong (opAt unary-operators s p) λ o e. E.Is (Unary o e))
+    (pick (eqb k 0x0A) (onByte E.Wrong (opAt quantifiers s p) λ o q. onByte E.Wrong (fewAt s q) λ n e. E.Is (Quantified o n e))
     (pick (eqb k 0x0B) (E.Is (Ascribed p))
     (pick (eqb k 0x0C) (pick bare E.Wrong (E.Is (Explicit p))) E.Wrong)))))))))))
 
@@ -97,13 +98,13 @@ unfoldable pub predBody : List ℕ → ℕ → Place → PredAt
 predBody s k p =
     pick (eqb k 0x20) (P.Is (Constant p))
     (pick (eqb k 0x21) (P.Is (Variable p))
-    (pick (eqb k 0x22) (onByte P.Wrong (opAt 12 s p) λ o e. P.Is (Relational o e))
+    (pick (eqb k 0x22) (onByte P.Wrong (opAt relations s p) λ o e. P.Is (Relational o e))
     (pick (eqb k 0x23) (P.Is (Connective p))
-    (pick (eqb k 0x24) (onWord P.Wrong (countAt 2 s p) λ n e. P.Is (Junction n e))
+    (pick (eqb k 0x24) (onWord P.Wrong (countAt least-joined s p) λ n e. P.Is (Junction n e))
     (pick (eqb k 0x25) (P.Is (Negation p))
     (pick (eqb k 0x26) (onByte P.Wrong (fewAt s p) λ n e. P.Is (Quantification n e))
     (pick (eqb k 0x27) (P.Is (Simple p))
-    (pick (eqb k 0x28) (onWord P.Wrong (countAt 1 s p) λ n e. P.Is (Multiple n e))
+    (pick (eqb k 0x28) (onWord P.Wrong (countAt least-listed s p) λ n e. P.Is (Multiple n e))
     (pick (eqb k 0x29) (onWord P.Wrong (wordAt s p) λ n e. P.Is (Application n e)) P.Wrong)))))))))
 
 unfoldable pub predHead : List ℕ → Place → PredAt

@@ -1,6 +1,7 @@
 pub mod Tree
 pub mod Environment
 pub mod Spell
+pub mod Counts
 pub mod Heads
 pub mod Reader
 pub mod Parse

@@ -39,10 +39,10 @@ use Rattle.formula.specs.declared.Fault.the-variants.{Malformed, Beyond}
 use Rattle.formula.specs.declared.Out.{Out}
 use Rattle.formula.specs.declared.Out.the-variants.{Next, Stop}
 use Rattle.formula.specs.Tree.{Spelling, Decl, Expr, extension, truth, binary, associative, unary, quantified, ascribed, explicit, Exprs, none, more, Pred, relational, connective, junction, negation, quantification, simple, multiple, application, Preds, end, also, Target, Formula, expression, predicate, becomes, becomes-in, becomes-such}
-use Rattle.formula.specs.Heads.{pick, place, byteOf, byteAt, onByte, fewAt, exprHead, predHead, declHead, targetAt}
+use Rattle.formula.specs.Heads.{pick, place, byteOf, byteAt, onByte, opAt, countAt, fewAt, exprHead, predHead, declHead, targetAt}
 use Rattle.formula.specs.Reader.{Got, ok, bad, andThen, forget, after, onNext, many, moved, ownOf, declareOf, closed, closing, closedOf, typeGot, typeIn, noType, spelledIn, spellingIn}
 use Rattle.formula.specs.Parse.{declBy, declIf, declAt, declsAt, exprBy, predBy, exprIf, predIf, exprDeep, predDeep, exprAt, predAt, exprsAt, predsAt, targetBy, targetIn, pairIn, targetsAt, pairsAt, becomesBy, becomesAt, rootBy, start, formulaAt, finish, whole, parsedBy, parseOf, formOf}
-use Rattle.types.specs.Limits.{max-bytes, max-depth, levels}
+use Rattle.types.specs.Limits.{max-bytes, max-depth, levels, max-slots, max-opened}
 
 -- ---- bytes
 
@@ -53,6 +53,36 @@ byte-in s p h = rw (drop-cons s (p .0) 0 h)
 pub byte-out : (s : List ℕ) (p : Place) → length s ≤ p .0 → B.Missing ≡ byteAt s p
 unfolding byteAt byteOf
 byte-out s p h = rw (drop-of-length-le s h)
+
+-- the code's limit is the definition's
+pub op-as : (limit m : ℕ) (s : List ℕ) (p : Place) (x : Byte) → opAt m s p ≡ x → m ≡ limit → opAt limit s p ≡ x
+op-as limit m s p x e h = ap (λ (n : ℕ). opAt n s p) (sym h) ∙ e
+
+pub count-as : (least m : ℕ) (s : List ℕ) (p : Place) (x : Word) → countAt m s p ≡ x → m ≡ least → countAt least s p ≡ x
+count-as least m s p x e h = ap (λ (n : ℕ). countAt n s p) (sym h) ∙ e
+
+-- ---- slots and open declarations
+
+module _ (e : Place) (st : St) where
+  pub own-room : st .slots < max-slots → Next (record { at = e; slots = st .slots + 1; opened = st .opened }) ≡ ownOf e st
+  unfolding ownOf
+  own-room h = rw (lt-ltb (st .slots) max-slots h)
+
+  pub own-full : max-slots ≤ st .slots → Stop (Beyond (st .at)) ≡ ownOf e st
+  unfolding ownOf
+  own-full h = rw (le-ltb (st .slots) max-slots h)
+
+  pub declare-room : st .opened < max-opened → st .slots < max-slots → Next (record { at = e; slots = st .slots + 1; opened = st .opened + 1 }) ≡ declareOf e st
+  unfolding declareOf
+  declare-room g h = rw (lt-ltb (st .opened) max-opened g, lt-ltb (st .slots) max-slots h)
+
+  pub declare-full : st .opened < max-opened → max-slots ≤ st .slots → Stop (Beyond (st .at)) ≡ declareOf e st
+  unfolding declareOf
+  declare-full g h = rw (lt-ltb (st .opened) max-opened g, le-ltb (st .slots) max-slots h)
+
+  pub declare-many : max-opened ≤ st .opened → Stop (Beyond (st .at)) ≡ declareOf e st
+  unfolding declareOf
+  declare-many h = rw (le-ltb (st .opened) max-opened h)
 
 -- ---- forgetting
 

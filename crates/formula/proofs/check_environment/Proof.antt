@@ -16,7 +16,7 @@ refused-requires c κs = search needs
 
 -- src/lib.rt:932:9
 returns : tie.Need-returns
-returns c = c .refused .ensures ∙ answer-long _ _ (c .before .if1 .taken)
+returns c = c .refused .ensures ∙ answer-long _ _ (omega (arith, c .before .if1 .taken))
 
 -- src/lib.rt:934:21
 cap-requires : tie.Need-cap-requires

@@ -10,7 +10,7 @@ use Rattle.formula.proofs.read_formula.Reads as read-formula-reads
 
 -- src/lib.rt:770:9
 returns : tie.Need-returns
-returns c = parse-long _ _ (c .if1 .taken)
+returns c = parse-long _ _ (omega (arith, c .if1 .taken))
 
 -- src/lib.rt:772:11
 read-formula-requires : tie.Need-read-formula-requires
@@ -30,7 +30,7 @@ cast-if2 c = search needs
 
 -- src/lib.rt:777:17
 returns-2 : tie.Need-returns-2
-returns-2 c = parse-over _ _ _ (c .before .before .before .before .before .before .before .if1 .left) (sym (c .before .before .before .before .before .before .read-formula .ensures) ∙ c .before .before .before .before .st .given .1) (c .if2 .taken)
+returns-2 c = parse-over _ _ _ (c .before .before .before .before .before .before .before .if1 .left) (sym (c .before .before .before .before .before .before .read-formula .ensures) ∙ c .before .before .before .before .st .given .1) (omega (arith, c .if2 .taken))
 
 -- src/lib.rt:766:1
 returns-3 : tie.Need-returns-3
@@ -38,7 +38,7 @@ returns-3 c = parse-bad _ _ _ (c .before .before .before .before .if1 .left) (sy
 
 -- src/lib.rt:766:1
 returns-4 : tie.Need-returns-4
-returns-4 c = parse-good _ _ _ (c .before .before .before .before .before .before .before .if1 .left) (sym (c .before .before .before .before .before .before .read-formula .ensures) ∙ c .before .before .before .before .st .given .1) (c .if2 .left)
+returns-4 c = parse-good _ _ _ (c .before .before .before .before .before .before .before .if1 .left) (sym (c .before .before .before .before .before .before .read-formula .ensures) ∙ c .before .before .before .before .st .given .1) (omega (arith, c .if2 .left))
 
 pub check-formula-spec : {M : Type 1} → statement M
 check-formula-spec =

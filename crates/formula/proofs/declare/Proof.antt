@@ -1,5 +1,4 @@
-use Rattle.formula.specs.Reader.{declareOf}
-use borrow.Author.Tests.{lt-ltb, le-ltb}
+use Rattle.formula.specs.Steps.{declare-room, declare-full, declare-many}
 use native.Mathlib.Omega.{arith}
 use mathlib.Core.Path.{_≡_, refl, sym, ap, _∙_}
 use borrow.Author.Needs.{needs}
@@ -18,18 +17,15 @@ add-t7 c = search needs
 
 -- src/lib.rt:376:13
 returns : tie.Need-returns
-unfolding declareOf
-returns c = rw (lt-ltb _ _ (c .before .before .before .before .if1 .taken), lt-ltb _ _ (c .before .before .if2 .taken))
+returns c = declare-room _ _ (omega (arith, c .before .before .before .before .if1 .taken)) (omega (arith, c .before .before .if2 .taken))
 
 -- src/lib.rt:378:9
 returns-2 : tie.Need-returns-2
-unfolding declareOf
-returns-2 c = rw (lt-ltb _ _ (c .before .before .if1 .taken), le-ltb _ _ (c .if2 .left))
+returns-2 c = declare-full _ _ (omega (arith, c .before .before .if1 .taken)) (omega (arith, c .if2 .left))
 
 -- src/lib.rt:370:1
 returns-3 : tie.Need-returns-3
-unfolding declareOf
-returns-3 c = rw (le-ltb _ _ (c .if1 .left))
+returns-3 c = declare-many _ _ (omega (arith, c .if1 .left))
 
 pub declare-spec : {M : Type 1} → statement M
 declare-spec = tie.close (tie.spec add-t6 add-t7 returns returns-2 returns-3)

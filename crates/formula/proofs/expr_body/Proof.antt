@@ -1,6 +1,8 @@
 use borrow.Author.Tests.{ne-eqb}
 use mathlib.Core.Path.{_≡_, refl, sym, ap, _∙_}
 use native.Mathlib.Omega.{arith}
+use Rattle.formula.specs.Counts.{atomic-operators, least-listed, binary-operators, associative-operators, least-joined, unary-operators, quantifiers}
+use Rattle.formula.specs.Steps.{op-as, count-as}
 use Rattle.formula.specs.Heads.{exprBody, onByte, onWord}
 use borrow.Author.Needs.{needs}
 use Rattle.formula.proofs.expr_body.Statement.{statement}
@@ -170,22 +172,22 @@ returns-6 c = rw (c .match .keys3)
 -- src/lib.rt:209:1
 returns-7 : tie.Need-returns-7
 unfolding exprBody onByte onWord
-returns-7 c = rw (c .before .before .before .match .keys4, (sym (c .before .before .op-at .ensures) ∙ c .enum-told3 .given .1))
+returns-7 c = rw (c .before .before .before .match .keys4, op-as atomic-operators _ _ _ _ (sym (c .before .before .op-at .ensures) ∙ c .enum-told3 .given .1) (omega arith))
 
 -- src/lib.rt:209:1
 returns-8 : tie.Need-returns-8
 unfolding exprBody onByte onWord
-returns-8 c = rw (c .before .before .before .before .match .keys4, (sym (c .before .before .before .op-at .ensures) ∙ c .before .o .given .1))
+returns-8 c = rw (c .before .before .before .before .match .keys4, op-as atomic-operators _ _ _ _ (sym (c .before .before .before .op-at .ensures) ∙ c .before .o .given .1) (omega arith))
 
 -- src/lib.rt:209:1
 returns-9 : tie.Need-returns-9
 unfolding exprBody onByte onWord
-returns-9 c = rw (c .before .before .before .match .keys5, (sym (c .before .before .count-at .ensures) ∙ c .enum-told4 .given .1))
+returns-9 c = rw (c .before .before .before .match .keys5, count-as least-listed _ _ _ _ (sym (c .before .before .count-at .ensures) ∙ c .enum-told4 .given .1) (omega arith))
 
 -- src/lib.rt:209:1
 returns-10 : tie.Need-returns-10
 unfolding exprBody onByte onWord
-returns-10 c = rw (c .before .before .before .before .match .keys5, (sym (c .before .before .before .count-at .ensures) ∙ c .before .n2 .given .1))
+returns-10 c = rw (c .before .before .before .before .match .keys5, count-as least-listed _ _ _ _ (sym (c .before .before .before .count-at .ensures) ∙ c .before .n2 .given .1) (omega arith))
 
 -- src/lib.rt:209:1
 returns-11 : tie.Need-returns-11
@@ -195,52 +197,52 @@ returns-11 c = rw (c .match .keys6)
 -- src/lib.rt:209:1
 returns-12 : tie.Need-returns-12
 unfolding exprBody onByte onWord
-returns-12 c = rw (c .before .before .before .match .keys7, (sym (c .before .before .op-at2 .ensures) ∙ c .enum-told5 .given .1))
+returns-12 c = rw (c .before .before .before .match .keys7, op-as binary-operators _ _ _ _ (sym (c .before .before .op-at2 .ensures) ∙ c .enum-told5 .given .1) (omega arith))
 
 -- src/lib.rt:209:1
 returns-13 : tie.Need-returns-13
 unfolding exprBody onByte onWord
-returns-13 c = rw (c .before .before .before .before .match .keys7, (sym (c .before .before .before .op-at2 .ensures) ∙ c .before .o2 .given .1))
+returns-13 c = rw (c .before .before .before .before .match .keys7, op-as binary-operators _ _ _ _ (sym (c .before .before .before .op-at2 .ensures) ∙ c .before .o2 .given .1) (omega arith))
 
 -- src/lib.rt:209:1
 returns-14 : tie.Need-returns-14
 unfolding exprBody onByte onWord
-returns-14 c = rw (c .before .before .before .match .keys8, (sym (c .before .before .op-at3 .ensures) ∙ c .enum-told6 .given .1))
+returns-14 c = rw (c .before .before .before .match .keys8, op-as associative-operators _ _ _ _ (sym (c .before .before .op-at3 .ensures) ∙ c .enum-told6 .given .1) (omega arith))
 
 -- src/lib.rt:209:1
 returns-15 : tie.Need-returns-15
 unfolding exprBody onByte onWord
-returns-15 c = rw (c .before .before .before .before .before .before .before .match .keys8, (sym (c .before .before .before .before .before .before .op-at3 .ensures) ∙ c .before .before .before .before .o3 .given .1), (sym (c .before .before .count-at2 .ensures) ∙ c .enum-told7 .given .1))
+returns-15 c = rw (c .before .before .before .before .before .before .before .match .keys8, op-as associative-operators _ _ _ _ (sym (c .before .before .before .before .before .before .op-at3 .ensures) ∙ c .before .before .before .before .o3 .given .1) (omega arith), count-as least-joined _ _ _ _ (sym (c .before .before .count-at2 .ensures) ∙ c .enum-told7 .given .1) (omega arith))
 
 -- src/lib.rt:209:1
 returns-16 : tie.Need-returns-16
 unfolding exprBody onByte onWord
-returns-16 c = rw (c .before .before .before .before .before .before .before .before .match .keys8, (sym (c .before .before .before .before .before .before .before .op-at3 .ensures) ∙ c .before .before .before .before .before .o3 .given .1), (sym (c .before .before .before .count-at2 .ensures) ∙ c .before .n3 .given .1))
+returns-16 c = rw (c .before .before .before .before .before .before .before .before .match .keys8, op-as associative-operators _ _ _ _ (sym (c .before .before .before .before .before .before .before .op-at3 .ensures) ∙ c .before .before .before .before .before .o3 .given .1) (omega arith), count-as least-joined _ _ _ _ (sym (c .before .before .before .count-at2 .ensures) ∙ c .before .n3 .given .1) (omega arith))
 
 -- src/lib.rt:209:1
 returns-17 : tie.Need-returns-17
 unfolding exprBody onByte onWord
-returns-17 c = rw (c .before .before .before .match .keys9, (sym (c .before .before .op-at4 .ensures) ∙ c .enum-told8 .given .1))
+returns-17 c = rw (c .before .before .before .match .keys9, op-as unary-operators _ _ _ _ (sym (c .before .before .op-at4 .ensures) ∙ c .enum-told8 .given .1) (omega arith))
 
 -- src/lib.rt:209:1
 returns-18 : tie.Need-returns-18
 unfolding exprBody onByte onWord
-returns-18 c = rw (c .before .before .before .before .match .keys9, (sym (c .before .before .before .op-at4 .ensures) ∙ c .before .o4 .given .1))
+returns-18 c = rw (c .before .before .before .before .match .keys9, op-as unary-operators _ _ _ _ (sym (c .before .before .before .op-at4 .ensures) ∙ c .before .o4 .given .1) (omega arith))
 
 -- src/lib.rt:209:1
 returns-19 : tie.Need-returns-19
 unfolding exprBody onByte onWord
-returns-19 c = rw (c .before .before .before .match .keys10, (sym (c .before .before .op-at5 .ensures) ∙ c .enum-told9 .given .1))
+returns-19 c = rw (c .before .before .before .match .keys10, op-as quantifiers _ _ _ _ (sym (c .before .before .op-at5 .ensures) ∙ c .enum-told9 .given .1) (omega arith))
 
 -- src/lib.rt:209:1
 returns-20 : tie.Need-returns-20
 unfolding exprBody onByte onWord
-returns-20 c = rw (c .before .before .before .before .before .before .before .match .keys10, (sym (c .before .before .before .before .before .before .op-at5 .ensures) ∙ c .before .before .before .before .o5 .given .1), (sym (c .before .before .few-at .ensures) ∙ c .enum-told10 .given .1))
+returns-20 c = rw (c .before .before .before .before .before .before .before .match .keys10, op-as quantifiers _ _ _ _ (sym (c .before .before .before .before .before .before .op-at5 .ensures) ∙ c .before .before .before .before .o5 .given .1) (omega arith), (sym (c .before .before .few-at .ensures) ∙ c .enum-told10 .given .1))
 
 -- src/lib.rt:209:1
 returns-21 : tie.Need-returns-21
 unfolding exprBody onByte onWord
-returns-21 c = rw (c .before .before .before .before .before .before .before .before .match .keys10, (sym (c .before .before .before .before .before .before .before .op-at5 .ensures) ∙ c .before .before .before .before .before .o5 .given .1), (sym (c .before .before .before .few-at .ensures) ∙ c .before .n4 .given .1))
+returns-21 c = rw (c .before .before .before .before .before .before .before .before .match .keys10, op-as quantifiers _ _ _ _ (sym (c .before .before .before .before .before .before .before .op-at5 .ensures) ∙ c .before .before .before .before .before .o5 .given .1) (omega arith), (sym (c .before .before .before .few-at .ensures) ∙ c .before .n4 .given .1))
 
 -- src/lib.rt:209:1
 returns-22 : tie.Need-returns-22

@@ -1,5 +1,4 @@
-use Rattle.formula.specs.Reader.{ownOf}
-use borrow.Author.Tests.{lt-ltb, le-ltb}
+use Rattle.formula.specs.Steps.{own-room, own-full}
 use native.Mathlib.Omega.{arith}
 use mathlib.Core.Path.{_≡_, refl, sym, ap, _∙_}
 use borrow.Author.Needs.{needs}
@@ -14,13 +13,11 @@ add-t5 c = search needs
 
 -- src/lib.rt:363:9
 returns : tie.Need-returns
-unfolding ownOf
-returns c = rw (lt-ltb _ _ (c .before .if1 .taken))
+returns c = own-room _ _ (omega (arith, c .before .if1 .taken))
 
 -- src/lib.rt:359:1
 returns-2 : tie.Need-returns-2
-unfolding ownOf
-returns-2 c = rw (le-ltb _ _ (c .before .if1 .left))
+returns-2 c = own-full _ _ (omega (arith, c .before .if1 .left))
 
 pub own-spec : {M : Type 1} → statement M
 own-spec = tie.close (tie.spec add-t5 returns returns-2)

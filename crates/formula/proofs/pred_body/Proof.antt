@@ -1,6 +1,8 @@
 use borrow.Author.Tests.{ne-eqb}
 use mathlib.Core.Path.{_≡_, refl, sym, ap, _∙_}
 use native.Mathlib.Omega.{arith}
+use Rattle.formula.specs.Counts.{relations, least-joined, least-listed}
+use Rattle.formula.specs.Steps.{op-as, count-as}
 use Rattle.formula.specs.Heads.{predBody, onByte, onWord}
 use borrow.Author.Needs.{needs}
 use Rattle.formula.proofs.pred_body.Statement.{statement}
@@ -85,12 +87,12 @@ returns-2 c = rw (c .match .keys2)
 -- src/lib.rt:275:1
 returns-3 : tie.Need-returns-3
 unfolding predBody onByte onWord
-returns-3 c = rw (c .before .before .before .match .keys3, (sym (c .before .before .op-at .ensures) ∙ c .enum-told .given .1))
+returns-3 c = rw (c .before .before .before .match .keys3, op-as relations _ _ _ _ (sym (c .before .before .op-at .ensures) ∙ c .enum-told .given .1) (omega arith))
 
 -- src/lib.rt:275:1
 returns-4 : tie.Need-returns-4
 unfolding predBody onByte onWord
-returns-4 c = rw (c .before .before .before .before .match .keys3, (sym (c .before .before .before .op-at .ensures) ∙ c .before .o .given .1))
+returns-4 c = rw (c .before .before .before .before .match .keys3, op-as relations _ _ _ _ (sym (c .before .before .before .op-at .ensures) ∙ c .before .o .given .1) (omega arith))
 
 -- src/lib.rt:275:1
 returns-5 : tie.Need-returns-5
@@ -100,12 +102,12 @@ returns-5 c = rw (c .match .keys4)
 -- src/lib.rt:275:1
 returns-6 : tie.Need-returns-6
 unfolding predBody onByte onWord
-returns-6 c = rw (c .before .before .before .match .keys5, (sym (c .before .before .count-at .ensures) ∙ c .enum-told2 .given .1))
+returns-6 c = rw (c .before .before .before .match .keys5, count-as least-joined _ _ _ _ (sym (c .before .before .count-at .ensures) ∙ c .enum-told2 .given .1) (omega arith))
 
 -- src/lib.rt:275:1
 returns-7 : tie.Need-returns-7
 unfolding predBody onByte onWord
-returns-7 c = rw (c .before .before .before .before .match .keys5, (sym (c .before .before .before .count-at .ensures) ∙ c .before .n .given .1))
+returns-7 c = rw (c .before .before .before .before .match .keys5, count-as least-joined _ _ _ _ (sym (c .before .before .before .count-at .ensures) ∙ c .before .n .given .1) (omega arith))
 
 -- src/lib.rt:275:1
 returns-8 : tie.Need-returns-8
@@ -130,12 +132,12 @@ returns-11 c = rw (c .match .keys8)
 -- src/lib.rt:275:1
 returns-12 : tie.Need-returns-12
 unfolding predBody onByte onWord
-returns-12 c = rw (c .before .before .before .match .keys9, (sym (c .before .before .count-at2 .ensures) ∙ c .enum-told4 .given .1))
+returns-12 c = rw (c .before .before .before .match .keys9, count-as least-listed _ _ _ _ (sym (c .before .before .count-at2 .ensures) ∙ c .enum-told4 .given .1) (omega arith))
 
 -- src/lib.rt:275:1
 returns-13 : tie.Need-returns-13
 unfolding predBody onByte onWord
-returns-13 c = rw (c .before .before .before .before .match .keys9, (sym (c .before .before .before .count-at2 .ensures) ∙ c .before .n3 .given .1))
+returns-13 c = rw (c .before .before .before .before .match .keys9, count-as least-listed _ _ _ _ (sym (c .before .before .before .count-at2 .ensures) ∙ c .before .n3 .given .1) (omega arith))
 
 -- src/lib.rt:275:1
 returns-14 : tie.Need-returns-14
