@@ -20,21 +20,21 @@ use Rattle.finisher.specs.Finisher.{toldBy, laidBy, eachOf}
 -- ---- the test's answers
 module _ (size : ℕ) (v r : State) (w out : List ℕ) where
   pub told-yes : (l q p x : ℕ) (o : Out A.U Bool) → told (To.Yes l) ≡ o → r ≡ leftOf l v → mach size r w out ≡ toldBy o q p x (mach size v w out)
-  unfolding told toldBy then
+  unfolding toldBy then
   told-yes l q p x o e h = ap (λ (y : State). mach size y w out) h ∙ ap (λ (y : Out A.U Bool). toldBy y q p x (mach size v w out)) e
 
   pub told-spent : (q p x : ℕ) (o : Out A.U Bool) → told To.Spent ≡ o → r ≡ stoppedOf 7 v → mach size r w out ≡ toldBy o q p x (mach size v w out)
-  unfolding told toldBy then
+  unfolding toldBy then
   told-spent q p x o e h = ap (λ (y : State). mach size y w out) h ∙ ap (λ (y : Out A.U Bool). toldBy y q p x (mach size v w out)) e
 
   pub told-broken : (q p x : ℕ) (o : Out A.U Bool) → told To.Broken ≡ o → r ≡ stoppedOf 2 v → mach size r w out ≡ toldBy o q p x (mach size v w out)
-  unfolding told toldBy then
+  unfolding toldBy then
   told-broken q p x o e h = ap (λ (y : State). mach size y w out) h ∙ ap (λ (y : Out A.U Bool). toldBy y q p x (mach size v w out)) e
 
   -- a problem listed: z is the state after it, and page the output
   pub told-no : (z : State) (page : List ℕ) (l q p x : ℕ) (o : Out A.U Bool) → told (To.No l) ≡ o → r ≡ leftOf l v
       → whole z (take size w) (drop size w) page ≡ listOf q p x (whole r (take size w) (drop size w) out) → mach size z w page ≡ toldBy o q p x (mach size v w out)
-  unfolding told toldBy then
+  unfolding toldBy then
   told-no z page l q p x o e h k = k ∙ ap (λ (y : State). listOf q p x (mach size y w out)) h ∙ ap (λ (y : Out A.U Bool). toldBy y q p x (mach size v w out)) e
 
 -- ---- the writer's answers: page is the output after it

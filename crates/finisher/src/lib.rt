@@ -96,7 +96,7 @@ fn test_slots(work: &[u32], output: &mut [u8], size: u32, st: State) -> State
 }
 
 // Whether nothing is listed.
-pub fn clean(st: State) -> bool
+fn clean(st: State) -> bool
     ensures { λ r. ⌜ r ≡ cleanOf st ⌝ }
 {
     if st.over {

@@ -61,8 +61,8 @@ case-2 = record {
 }
 
 -- case 2, one node fewer
-abbrev case-3 : Case
-case-3 = record {
+abbrev case-2-full : Case
+case-2-full = record {
   formula = 0x22 ∷ 0x06 ∷ 0x01 ∷ 0x00 ∷ 0x00 ∷ 0x04 ∷ 0x00 ∷ [];
   environment = [];
   capacity = 3;
@@ -71,8 +71,8 @@ case-3 = record {
 }
 
 -- case 2, one unit fewer
-abbrev case-4 : Case
-case-4 = record {
+abbrev case-2-spent : Case
+case-2-spent = record {
   formula = 0x22 ∷ 0x06 ∷ 0x01 ∷ 0x00 ∷ 0x00 ∷ 0x04 ∷ 0x00 ∷ [];
   environment = [];
   capacity = 2048;
@@ -81,8 +81,8 @@ case-4 = record {
 }
 
 -- case 3
-abbrev case-5 : Case
-case-5 = record {
+abbrev case-3 : Case
+case-3 = record {
   formula = 0x22 ∷ 0x00 ∷ 0x01 ∷ 0x00 ∷ 0x00 ∷ 0x01 ∷ 0x00 ∷ 0x00 ∷ [];
   environment = [];
   capacity = 2048;
@@ -91,8 +91,8 @@ case-5 = record {
 }
 
 -- case 4
-abbrev case-6 : Case
-case-6 = record {
+abbrev case-4 : Case
+case-4 = record {
   formula = 0x22 ∷ 0x00 ∷ 0x04 ∷ 0x08 ∷ 0x04 ∷ 0x08 ∷ [];
   environment = [];
   capacity = 2048;
@@ -101,8 +101,8 @@ case-6 = record {
 }
 
 -- case 5
-abbrev case-7 : Case
-case-7 = record {
+abbrev case-5 : Case
+case-5 = record {
   formula = 0x22 ∷ 0x06 ∷ 0x01 ∷ 0x00 ∷ 0x00 ∷ 0x01 ∷ 0x00 ∷ 0x00 ∷ [];
   environment = [];
   capacity = 2048;
@@ -111,8 +111,8 @@ case-7 = record {
 }
 
 -- case 6
-abbrev case-8 : Case
-case-8 = record {
+abbrev case-6 : Case
+case-6 = record {
   formula = 0x22 ∷ 0x00 ∷ 0x07 ∷ 0x00 ∷ 0x01 ∷ 0x00 ∷ 0x00 ∷ 0x04 ∷ 0x04 ∷ 0x07 ∷ 0x00 ∷ 0x03 ∷ 0x03 ∷ [];
   environment = [];
   capacity = 2048;
@@ -121,8 +121,8 @@ case-8 = record {
 }
 
 -- case 7
-abbrev case-9 : Case
-case-9 = record {
+abbrev case-7 : Case
+case-7 = record {
   formula = 0x26 ∷ 0x01 ∷ 0x12 ∷ 0x43 ∷ 0x42 ∷ 0x00 ∷ 0x00 ∷ 0x20 ∷ [];
   environment = 0x50 ∷ 0x00 ∷ 0x00 ∷ 0x41 ∷ [];
   capacity = 2048;
@@ -131,8 +131,8 @@ case-9 = record {
 }
 
 -- case 7, without the environment
-abbrev case-10 : Case
-case-10 = record {
+abbrev case-7-bare : Case
+case-7-bare = record {
   formula = 0x26 ∷ 0x01 ∷ 0x12 ∷ 0x43 ∷ 0x42 ∷ 0x00 ∷ 0x00 ∷ 0x20 ∷ [];
   environment = [];
   capacity = 2048;
@@ -141,8 +141,8 @@ case-10 = record {
 }
 
 -- case 8
-abbrev case-11 : Case
-case-11 = record {
+abbrev case-8 : Case
+case-8 = record {
   formula = 0x02 ∷ 0x00 ∷ 0x00 ∷ [];
   environment = [];
   capacity = 2048;
@@ -151,8 +151,8 @@ case-11 = record {
 }
 
 -- case 9
-abbrev case-12 : Case
-case-12 = record {
+abbrev case-9 : Case
+case-9 = record {
   formula = 0x20 ∷ [];
   environment = [];
   capacity = 2048;
@@ -161,8 +161,8 @@ case-12 = record {
 }
 
 -- case 9, the empty formula
-abbrev case-13 : Case
-case-13 = record {
+abbrev case-9-empty : Case
+case-9-empty = record {
   formula = [];
   environment = [];
   capacity = 2048;
@@ -171,8 +171,8 @@ case-13 = record {
 }
 
 -- case 10
-abbrev case-14 : Case
-case-14 = record {
+abbrev case-10 : Case
+case-10 = record {
   formula = 0x05 ∷ 0x00 ∷ 0x00 ∷ [];
   environment = [];
   capacity = 2048;
@@ -181,7 +181,7 @@ case-14 = record {
 }
 
 abbrev pub cases : List Case
-cases = case-1 ∷ case-2 ∷ case-3 ∷ case-4 ∷ case-5 ∷ case-6 ∷ case-7 ∷ case-8 ∷ case-9 ∷ case-10 ∷ case-11 ∷ case-12 ∷ case-13 ∷ case-14 ∷ []
+cases = case-1 ∷ case-2 ∷ case-2-full ∷ case-2-spent ∷ case-3 ∷ case-4 ∷ case-5 ∷ case-6 ∷ case-7 ∷ case-7-bare ∷ case-8 ∷ case-9 ∷ case-9-empty ∷ case-10 ∷ []
 
 abbrev pub Answered : List Case → Type 0
 Answered [] = Unit {0}

@@ -5,7 +5,7 @@ use mathlib.Core.Path.{_≡_, refl, sym, _∙_, ap, ap₂, subst}
 use mathlib.Core.Bool.{Bool, true, false}
 use mathlib.Core.List.{List, [], _∷_, _++_}
 use native.Mathlib.Omega.{arith}
-use Rattle.meter.specs.Meter.{Out, spent, halt, done, Why, M, ret, _>>=_, Shift, same, wreck, late, wait, lost, Within, w-spent, w-halt, w-done, Metered, metered-ret, metered-bind, mapped, mapped-done, mapped-shift, mapped-within, Costs, done-costs, Exact, exact-ret, exact-eq, exact-map, exact-bind}
+use Rattle.meter.specs.Meter.{Out, spent, halt, done, Why, M, ret, _>>=_, Shift, same, wreck, late, wait, lost, Within, w-spent, w-halt, w-done, Metered, metered-ret, metered-bind, mapped, mapped-done, mapped-shift, mapped-within, Exact, exact-ret, exact-eq, exact-map, exact-bind}
 use Rattle.types.specs.Ty.{Ty}
 use Rattle.formula.specs.Environment.{Env}
 use Rattle.formula.specs.Tree.{Formula}
@@ -87,8 +87,3 @@ finish-metered Γ row ss s = metered-bind (ask-metered (s .words) (s .count) (na
 pub concluded-metered : (capacity : ℕ) (Γ : Env) (f : Formula) → Metered (concluded capacity Γ f)
 unfolding concluded
 concluded-metered capacity Γ f = metered-bind (exec-metered capacity _ _) λ s. finish-metered Γ _ _ s
-
--- the steps of a conclusion are the least budget for it, and a larger one changes nothing
-pub concluded-costs : (capacity : ℕ) (Γ : Env) (f : Formula) (budget : ℕ) (o : Outcome) (left : ℕ) → concluded capacity Γ f budget ≡ done o left
-    → (c : ℕ) × (c + left ≡ budget) × Costs (concluded capacity Γ f) o c
-concluded-costs capacity Γ f budget o left e = done-costs (concluded-metered capacity Γ f) budget o left e

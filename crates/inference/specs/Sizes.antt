@@ -2,6 +2,7 @@
 use Prim.Native.Nat.{ℕ, zero, suc, _+_, _*_, _≤_, _<_}
 use mathlib.Core.Path.{_≡_, refl, sym, _∙_, ap, subst}
 use mathlib.Core.Logic.{_↔_}
+use native.Mathlib.Omega.{arith}
 use mathlib.Core.Bool.{Bool, true, false, _&&_}
 use mathlib.Core.List.{List, [], _∷_, _++_}
 use lib.Dec.{leb, ltb}
@@ -37,19 +38,22 @@ six a b c d e f t =
     let t₂ = and-left (a && b) c t₃ in
     (and-left a b t₂, and-right a b t₂, and-right (a && b) c t₃, and-right (a && b && c) d t₄, and-right (a && b && c && d) e t₅, and-right (a && b && c && d && e) f t)
 
+all-six : (a b c d e f : Bool) → a ≡ true → b ≡ true → c ≡ true → d ≡ true → e ≡ true → f ≡ true → a && b && c && d && e && f ≡ true
+all-six a b c d e f h i j k l m = rw (h, i, j, k, l, m) refl
+
 pub sized-holds : (f e n c w : ℕ) → Sized f e n c w ↔ (sized f e n c w ≡ true)
 unfolding sized
 sized-holds f e n c w = (
-  λ s. rw (le-leb f 16384 (s .formula-short), le-leb e 16384 (s .environment-short), le-leb n 256 (s .names-few), le-leb 1 c (s .capacity-some), le-leb c 32768 (s .capacity-small), le-leb (3 * c + 4096) w (s .work-long)) refl,
+  λ s. all-six _ _ _ _ _ _ (le-leb f _ (s .formula-short)) (le-leb e _ (s .environment-short)) (le-leb n _ (s .names-few)) (le-leb _ c (omega (arith, s .capacity-some))) (le-leb c _ (s .capacity-small)) (le-leb _ w (s .work-long)),
   λ t. (
-      let h = six (leb f 16384) (leb e 16384) (leb n 256) (leb 1 c) (leb c 32768) (leb (3 * c + 4096) w) t in
+      let h = six _ _ _ _ _ _ t in
       record {
-        formula-short = leb-true f 16384 (h .0);
-        environment-short = leb-true e 16384 (h .1);
-        names-few = leb-true n 256 (h .2);
-        capacity-some = leb-true 1 c (h .3);
-        capacity-small = leb-true c 32768 (h .4);
-        work-long = leb-true (3 * c + 4096) w (h .5);
+        formula-short = leb-true f _ (h .0);
+        environment-short = leb-true e _ (h .1);
+        names-few = leb-true n _ (h .2);
+        capacity-some = omega (arith, leb-true _ c (h .3));
+        capacity-small = leb-true c _ (h .4);
+        work-long = leb-true _ w (h .5);
       }),
 )
 

@@ -11,7 +11,7 @@ use Rattle.unifier.specs.declared.Made.the-variants as Ma
 use Rattle.lift.specs.Answers.{raised, crowned}
 
 pub crown-raised : (root : Made) (e : ℕ) (ws ws′ : Words) (n : ℕ) (nd : Node) → made root ws′ ≡ build ws n nd → raised (crowned root e) ws′ ≡ crown ws n nd e
-unfolding made raised crowned
+unfolding raised crowned
 crown-raised (Ma.At t) e ws ws′ n nd q = sym (crown-done ws n nd e (t .0) ws′ (sym q))
 crown-raised Ma.Full e ws ws′ n nd q = sym (crown-stop ws n nd e full ws′ (sym q))
 crown-raised Ma.Broken e ws ws′ n nd q = sym (crown-stop ws n nd e broken ws′ (sym q))

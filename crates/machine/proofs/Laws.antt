@@ -91,39 +91,39 @@ lent-unify r size n count a b budget w last h k = (ap (settled r) (h .front) ∙
 -- ---- what the unifier's answers do
 module _ (size : ℕ) (v r : State) (w w′ out : List ℕ) (b : drop size w′ ≡ drop size w) where
   pub made-at : (t : NodeRef) (m : M (List ℕ) (ℕ × List ℕ)) → made (Ma.At t) (take size w′) ≡ m → r ≡ grownOf (t .0) v → mach size r w′ out ≡ grownBy (m 0) (mach size v w out)
-  unfolding made grownBy then ret
+  unfolding grownBy then ret
   made-at t m e h = ap₂ (λ (x : State) (l : List ℕ). whole x (take size w′) l out) h b ∙ ap (λ (f : M (List ℕ) (ℕ × List ℕ)). grownBy (f 0) (mach size v w out)) e
 
   pub made-full : (m : M (List ℕ) (ℕ × List ℕ)) → made Ma.Full (take size w′) ≡ m → r ≡ stoppedOf 6 v → mach size r w′ out ≡ grownBy (m 0) (mach size v w out)
-  unfolding made grownBy then fail
+  unfolding grownBy then fail
   made-full m e h = ap₂ (λ (x : State) (l : List ℕ). whole x (take size w′) l out) h b ∙ ap (λ (f : M (List ℕ) (ℕ × List ℕ)). grownBy (f 0) (mach size v w out)) e
 
   pub made-broken : (m : M (List ℕ) (ℕ × List ℕ)) → made Ma.Broken (take size w′) ≡ m → r ≡ stoppedOf 2 v → mach size r w′ out ≡ grownBy (m 0) (mach size v w out)
-  unfolding made grownBy then fail
+  unfolding grownBy then fail
   made-broken m e h = ap₂ (λ (x : State) (l : List ℕ). whole x (take size w′) l out) h b ∙ ap (λ (f : M (List ℕ) (ℕ × List ℕ)). grownBy (f 0) (mach size v w out)) e
 
   pub settled-done : (l p : ℕ) (o : Out (List ℕ) A.Answer) → settled (Un.Done l) (take size w′) ≡ o → r ≡ leftOf l v → mach size r w′ out ≡ settledBy o p (mach size v w out)
-  unfolding settled settledBy judgedBy then
+  unfolding settledBy judgedBy then
   settled-done l p o e h = ap₂ (λ (x : State) (l : List ℕ). whole x (take size w′) l out) h b ∙ ap (λ (x : Out (List ℕ) A.Answer). settledBy x p (mach size v w out)) e
 
   pub settled-spent : (p : ℕ) (o : Out (List ℕ) A.Answer) → settled Un.Spent (take size w′) ≡ o → r ≡ stoppedOf 7 v → mach size r w′ out ≡ settledBy o p (mach size v w out)
-  unfolding settled settledBy then
+  unfolding settledBy then
   settled-spent p o e h = ap₂ (λ (x : State) (l : List ℕ). whole x (take size w′) l out) h b ∙ ap (λ (x : Out (List ℕ) A.Answer). settledBy x p (mach size v w out)) e
 
   pub settled-broken : (p : ℕ) (o : Out (List ℕ) A.Answer) → settled Un.Broken (take size w′) ≡ o → r ≡ stoppedOf 2 v → mach size r w′ out ≡ settledBy o p (mach size v w out)
-  unfolding settled settledBy then
+  unfolding settledBy then
   settled-broken p o e h = ap₂ (λ (x : State) (l : List ℕ). whole x (take size w′) l out) h b ∙ ap (λ (x : Out (List ℕ) A.Answer). settledBy x p (mach size v w out)) e
 
 -- a problem listed: x is the state after it, and q the output
 module _ (size : ℕ) (v r x : State) (w w′ out q : List ℕ) (b : drop size w′ ≡ drop size w) where
   pub settled-mismatch : (l p : ℕ) (o : Out (List ℕ) A.Answer) → settled (Un.Mismatch l) (take size w′) ≡ o → r ≡ leftOf l v
       → whole x (take size w′) (drop size w′) q ≡ listOf 0 p 0xFFFF (whole r (take size w′) (drop size w′) out) → mach size x w′ q ≡ settledBy o p (mach size v w out)
-  unfolding settled settledBy judgedBy then
+  unfolding settledBy judgedBy then
   settled-mismatch l p o e h k = k ∙ ap₂ (λ (y : State) (z : List ℕ). listOf 0 p 0xFFFF (whole y (take size w′) z out)) h b ∙ ap (λ (y : Out (List ℕ) A.Answer). settledBy y p (mach size v w out)) e
 
   pub settled-circular : (l p : ℕ) (o : Out (List ℕ) A.Answer) → settled (Un.Circular l) (take size w′) ≡ o → r ≡ leftOf l v
       → whole x (take size w′) (drop size w′) q ≡ listOf 1 p 0xFFFF (whole r (take size w′) (drop size w′) out) → mach size x w′ q ≡ settledBy o p (mach size v w out)
-  unfolding settled settledBy judgedBy then
+  unfolding settledBy judgedBy then
   settled-circular l p o e h k = k ∙ ap₂ (λ (y : State) (z : List ℕ). listOf 1 p 0xFFFF (whole y (take size w′) z out)) h b ∙ ap (λ (y : Out (List ℕ) A.Answer). settledBy y p (mach size v w out)) e
 
 -- ---- the book

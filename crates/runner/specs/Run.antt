@@ -1,5 +1,5 @@
 -- Inference step by step, as the code goes: the walk, the tests, the verdict, the refusals of form.
--- What all of it comes to is `inferOf` of crate `inference`; crate `conclusion` has the proof.
+-- What all of it comes to is `inferOf` of crate `inference`; crate `assembly` has the proof.
 use Prim.Native.Nat.{ℕ, _-_}
 use mathlib.Core.Bool.{Bool, true, false}
 use mathlib.Core.List.{List}

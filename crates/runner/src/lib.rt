@@ -144,7 +144,7 @@ pub fn judge(work: &[u32], output: &mut [u8], size: u32, budget: u64, st: State)
 // ---- what is left behind
 
 // The bytes of an answer.
-pub fn length_of(answer: Answer) -> usize
+fn length_of(answer: Answer) -> usize
     ensures { λ r. ⌜ r ≡ told answer .size ⌝ }
 {
     match answer {

@@ -42,7 +42,7 @@ Settled (F.Is x) = Root (nodeOf x)
 Settled F.Broken = Unit {0}
 
 -- a maker pays nothing: the outcome at every budget
-unfoldable pub made : Made → S.Words → M S.Words (ℕ × S.Words)
+abbrev pub made : Made → S.Words → M S.Words (ℕ × S.Words)
 made (Ma.At t) ws = ret (t .0, ws)
 made Ma.Full ws = fail full ws
 made Ma.Broken ws = fail broken ws
@@ -52,7 +52,7 @@ arrived (R.At t x l) = done (t .0, nodeOf x) l
 arrived R.Spent = spent tt
 arrived R.Broken = halt broken tt
 
-unfoldable pub told : Told → Out S.U Bool
+abbrev pub told : Told → Out S.U Bool
 told (To.Yes l) = done true l
 told (To.No l) = done false l
 told To.Spent = spent tt
@@ -67,7 +67,7 @@ taken (P.Two x z y w l) = done (T.two (x .0) (z .0) (y .0) (w .0)) l
 taken P.Spent = spent tt
 taken P.Broken = halt broken tt
 
-unfoldable pub settled : Unified → S.Words → Out S.Words S.Answer
+abbrev pub settled : Unified → S.Words → Out S.Words S.Answer
 settled (Un.Done l) ws = done (S.unified, ws) l
 settled (Un.Mismatch l) ws = done (S.mismatch, ws) l
 settled (Un.Circular l) ws = done (S.circular, ws) l

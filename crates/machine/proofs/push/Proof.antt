@@ -102,7 +102,6 @@ same-length c = search needs
 
 -- src/lib.rt:356:1
 returns : tie.Need-returns
-unfolding made
 returns c = lent-push (c .before .before .fresh .result) (c .before .before .before .before .before .before .before .args .size) (c .before .before .before .before .before .within .result) _ (c .before .before .before .before .before .before .before .args .work .now) (c .before .before .fresh .last .0) _ _ (lent (c .before .before .before .before .before .before .before .args .size) (c .before .before .before .before .before .within .result) (c .before .before .before .before .before .before .before .args .work .now) (c .before .before .fresh .last .0) (c .before .before .before .before .before .within .ensures .0) (c .before .before .fresh .kept .0)) (c .before .before .fresh .ensures) (ap (λ (k : ℕ). decode k (c .before .before .before .before .before .before .before .args .a) (c .before .before .before .before .before .before .before .args .b)) (sym (c .before .before .before .before .match .keys1)))
 
 -- src/lib.rt:356:1
@@ -111,7 +110,6 @@ same-length-2 c = search needs
 
 -- src/lib.rt:356:1
 returns-2 : tie.Need-returns-2
-unfolding made
 returns-2 c = lent-push (c .before .before .boolean .result) (c .before .before .before .before .before .before .before .args .size) (c .before .before .before .before .before .within .result) _ (c .before .before .before .before .before .before .before .args .work .now) (c .before .before .boolean .last .0) _ _ (lent (c .before .before .before .before .before .before .before .args .size) (c .before .before .before .before .before .within .result) (c .before .before .before .before .before .before .before .args .work .now) (c .before .before .boolean .last .0) (c .before .before .before .before .before .within .ensures .0) (c .before .before .boolean .kept .0)) (c .before .before .boolean .ensures) (ap (λ (k : ℕ). decode k (c .before .before .before .before .before .before .before .args .a) (c .before .before .before .before .before .before .before .args .b)) (sym (c .before .before .before .before .match .keys2)))
 
 -- src/lib.rt:356:1
@@ -120,7 +118,6 @@ same-length-3 c = search needs
 
 -- src/lib.rt:356:1
 returns-3 : tie.Need-returns-3
-unfolding made
 returns-3 c = lent-push (c .before .before .int .result) (c .before .before .before .before .before .before .before .args .size) (c .before .before .before .before .before .within .result) _ (c .before .before .before .before .before .before .before .args .work .now) (c .before .before .int .last .0) _ _ (lent (c .before .before .before .before .before .before .before .args .size) (c .before .before .before .before .before .within .result) (c .before .before .before .before .before .before .before .args .work .now) (c .before .before .int .last .0) (c .before .before .before .before .before .within .ensures .0) (c .before .before .int .kept .0)) (c .before .before .int .ensures) (ap (λ (k : ℕ). decode k (c .before .before .before .before .before .before .before .args .a) (c .before .before .before .before .before .before .before .args .b)) (sym (c .before .before .before .before .match .keys3)))
 
 -- src/lib.rt:356:1
@@ -129,7 +126,6 @@ same-length-4 c = search needs
 
 -- src/lib.rt:356:1
 returns-4 : tie.Need-returns-4
-unfolding made
 returns-4 c = lent-push (c .before .before .given .result) (c .before .before .before .before .before .before .before .args .size) (c .before .before .before .before .before .within .result) _ (c .before .before .before .before .before .before .before .args .work .now) (c .before .before .given .last .0) _ _ (lent (c .before .before .before .before .before .before .before .args .size) (c .before .before .before .before .before .within .result) (c .before .before .before .before .before .before .before .args .work .now) (c .before .before .given .last .0) (c .before .before .before .before .before .within .ensures .0) (c .before .before .given .kept .0)) (c .before .before .given .ensures) (ap (λ (k : ℕ). decode k (c .before .before .before .before .before .before .before .args .a) (c .before .before .before .before .before .before .before .args .b)) (sym (c .before .before .before .before .match .keys4)))
 
 -- src/lib.rt:356:1
@@ -138,7 +134,6 @@ same-length-5 c = search needs
 
 -- src/lib.rt:356:1
 returns-5 : tie.Need-returns-5
-unfolding made
 returns-5 c = lent-push (c .before .before .pow .result) (c .before .before .before .before .before .before .before .args .size) (c .before .before .before .before .before .within .result) _ (c .before .before .before .before .before .before .before .args .work .now) (c .before .before .pow .last .0) _ _ (lent (c .before .before .before .before .before .before .before .args .size) (c .before .before .before .before .before .within .result) (c .before .before .before .before .before .before .before .args .work .now) (c .before .before .pow .last .0) (c .before .before .before .before .before .within .ensures .0) (c .before .before .pow .kept .0)) (c .before .before .pow .ensures) (ap (λ (k : ℕ). decode k (c .before .before .before .before .before .before .before .args .a) (c .before .before .before .before .before .before .before .args .b)) (sym (c .before .before .before .before .match .keys5)))
 
 -- src/lib.rt:356:1
@@ -147,12 +142,10 @@ same-length-6 c = search needs
 
 -- src/lib.rt:356:1
 returns-6 : tie.Need-returns-6
-unfolding made
 returns-6 c = lent-push (c .before .before .prod .result) (c .before .before .before .before .before .before .before .args .size) (c .before .before .before .before .before .within .result) _ (c .before .before .before .before .before .before .before .args .work .now) (c .before .before .prod .last .0) _ _ (lent (c .before .before .before .before .before .before .before .args .size) (c .before .before .before .before .before .within .result) (c .before .before .before .before .before .before .before .args .work .now) (c .before .before .prod .last .0) (c .before .before .before .before .before .within .ensures .0) (c .before .before .prod .kept .0)) (c .before .before .prod .ensures) (ap (λ (k : ℕ). decode k (c .before .before .before .before .before .before .before .args .a) (c .before .before .before .before .before .before .before .args .b)) (sym (c .before .before .before .before .match .keys6)))
 
 -- src/lib.rt:356:1
 returns-7 : tie.Need-returns-7
-unfolding made
 returns-7 c = (sym (builds-no-other _ _ _ _ _ (c .match .rest .0 .0 .0 .0 .0 .1) (c .match .rest .0 .0 .0 .0 .1) (c .match .rest .0 .0 .0 .1) (c .match .rest .0 .0 .1) (c .match .rest .0 .1) (c .match .rest .1)), refl)
 
 pub push-spec : {M : Type 1} → statement M

@@ -24,7 +24,7 @@ returns c = c .before .before .push .ensures ∙ sym (build-power _ _ _ (c .befo
 
 -- src/lib.rt:154:1
 returns-2 : tie.Need-returns-2
-unfolding build choose made
+unfolding build choose
 returns-2 c = simp (le-ltb _ _ (c .if1 .left))
 
 pub pow-spec : {M : Type 1} → statement M

@@ -24,12 +24,12 @@ returns c = c .before .before .push .ensures ∙ sym (build-pair _ _ _ _ (c .bef
 
 -- src/lib.rt:164:1
 returns-2 : tie.Need-returns-2
-unfolding build choose made
+unfolding build choose
 returns-2 c = simp (lt-ltb _ _ (c .before .before .if1 .taken), le-ltb _ _ (c .if2 .left))
 
 -- src/lib.rt:164:1
 returns-3 : tie.Need-returns-3
-unfolding build choose made
+unfolding build choose
 returns-3 c = simp (le-ltb _ _ (c .if1 .left))
 
 pub prod-spec : {M : Type 1} → statement M

@@ -16,7 +16,6 @@ mul-at c = search needs
 
 -- src/lib.rt:111:9
 returns : tie.Need-returns
-unfolding made
 returns c = sym (make-past _ _ _ _ _ (c .if1 .taken))
 
 -- src/lib.rt:113:8
@@ -25,12 +24,10 @@ sub-if2 c = search needs
 
 -- src/lib.rt:114:9
 returns-2 : tie.Need-returns-2
-unfolding made
 returns-2 c = sym (make-full _ _ _ _ _ (c .before .if1 .left) (omega (arith, c .if2 .taken, c .before .if1 .left)))
 
 -- src/lib.rt:117:9
 returns-3 : tie.Need-returns-3
-unfolding made
 returns-3 c = sym (make-last _ _ _ _ _ (omega (arith, c .before .if2 .left, c .before .before .if1 .left)) (omega (arith, c .if3 .taken)))
 
 -- src/lib.rt:119:5
@@ -71,7 +68,7 @@ same-length c = search needs
 
 -- src/lib.rt:106:1
 returns-4 : tie.Need-returns-4
-unfolding made pushAt
+unfolding pushAt
 returns-4 c = sym (make-done _ _ _ _ _ (omega (arith, c .before .if2 .left, c .before .before .if1 .left)) (omega (arith, c .if3 .left)))
 
 pub push-spec : {M : Type 1} → statement M

@@ -20,7 +20,6 @@ enum-known-product c = search needs
 
 -- src/lib.rt:181:35
 add-pow : tie.Need-add-pow
-unfolding made
 add-pow c = omega (arith, build-small _ _ _ _ _ (sym (c .before .before .before .before .before .before .before .prod .ensures) ∙ ap (λ r. made r (c .before .before .before .before .before .before .before .prod .last .0)) (c .before .before .before .product .given .1)) .1)
 
 -- src/lib.rt:181:24
@@ -41,7 +40,6 @@ same-length c = search needs
 
 -- src/lib.rt:176:1
 returns : tie.Need-returns
-unfolding made
 returns c = c .before .before .pow .ensures ∙ sym (relate-done _ _ _ _ _ _ (sym (c .before .before .before .before .before .before .before .before .before .before .prod .ensures) ∙ ap (λ r. made r (c .before .before .before .before .before .before .before .before .before .before .prod .last .0)) (c .before .before .before .before .before .before .product .given .1)))
 
 -- src/lib.rt:176:1
@@ -50,7 +48,6 @@ same-length-2 c = search needs
 
 -- src/lib.rt:176:1
 returns-2 : tie.Need-returns-2
-unfolding made
 returns-2 c = sym (relate-stop _ _ _ _ _ _ (sym (c .before .before .before .before .prod .ensures) ∙ ap (λ r. made r (c .before .before .before .before .prod .last .0)) (c .enum-told .given .1)))
 
 -- src/lib.rt:176:1
@@ -59,7 +56,6 @@ same-length-3 c = search needs
 
 -- src/lib.rt:176:1
 returns-3 : tie.Need-returns-3
-unfolding made
 returns-3 c = sym (relate-stop _ _ _ _ _ _ (sym (c .before .before .before .before .prod .ensures) ∙ ap (λ r. made r (c .before .before .before .before .prod .last .0)) (c .enum-told2 .given .1)))
 
 pub relation-spec : {M : Type 1} → statement M

@@ -18,7 +18,6 @@ same-length c = search needs
 
 -- src/lib.rt:396:1
 returns : tie.Need-returns
-unfolding settled
 returns c = sym (unified-zero _ _ _ (c .match .keys1)) ∙ c .before .before .before .join .ensures
 
 -- src/lib.rt:396:1
@@ -27,7 +26,6 @@ same-length-2 c = search needs
 
 -- src/lib.rt:396:1
 returns-2 : tie.Need-returns-2
-unfolding settled
 returns-2 c = sym (unified-mismatch _ _ _ (c .match .keys2)) ∙ c .before .before .before .join .ensures
 
 -- src/lib.rt:396:1
@@ -36,7 +34,6 @@ same-length-3 c = search needs
 
 -- src/lib.rt:396:1
 returns-3 : tie.Need-returns-3
-unfolding settled
 returns-3 c = sym (unified-circular _ _ _ (c .match .keys3)) ∙ c .before .before .before .join .ensures
 
 -- src/lib.rt:396:1
@@ -45,7 +42,6 @@ same-length-4 c = search needs
 
 -- src/lib.rt:396:1
 returns-4 : tie.Need-returns-4
-unfolding settled
 returns-4 c = sym (unified-spent _ _ _ (c .match .keys4)) ∙ c .before .before .before .join .ensures
 
 -- src/lib.rt:396:1
@@ -54,7 +50,6 @@ same-length-5 c = search needs
 
 -- src/lib.rt:396:1
 returns-5 : tie.Need-returns-5
-unfolding settled
 returns-5 c = sym (unified-broken _ _ _ (c .match .rest .0 .0 .0 .1) (c .match .rest .0 .0 .1) (c .match .rest .0 .1) (c .match .rest .1)) ∙ c .before .before .before .join .ensures
 
 pub unify-spec : {M : Type 1} → statement M
