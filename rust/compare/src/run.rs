@@ -228,13 +228,18 @@ impl Run {
         self.ask(&question, room, words);
     }
 
-    /// Every byte string of at most `longest` bytes as a formula, as an environment, as a text and as a type record.
-    pub fn strings(&mut self, longest: usize, rng: &mut Rng, progress: &mut Progress) {
+    /// Every byte string of at most `longest` bytes: as a formula and as an environment, and as a text and as a type record, each if it is asked for.
+    pub fn strings(&mut self, longest: usize, infer: bool, text: bool, rng: &mut Rng, progress: &mut Progress) {
         let all = (0..=longest as u32).map(|length| 256u64.pow(length)).sum();
         for (done, bytes) in (0..).zip(exhaustive::strings(longest)) {
             progress.at("byte strings", done, all, &self.tally);
-            self.read(&bytes, &[0x81, b'S'], 16);
-            self.write(&bytes, &[0x81, b'S'], 16, 1);
+            if text {
+                self.read(&bytes, &[0x81, b'S'], 16);
+                self.write(&bytes, &[0x81, b'S'], 16, 1);
+            }
+            if !infer {
+                continue;
+            }
             let formula = Case { formula: bytes.clone(), environment: Vec::new(), names: 1 };
             self.case(&formula, rng);
             let environment = Case { formula: vec![0x20], environment: bytes, names: 1 };

@@ -13,7 +13,7 @@ fn the_sides_agree() {
     let mut rng = Rng::new(seed);
     let mut run = Run::new(others());
     run.systematic(&mut rng);
-    run.strings(1, &mut rng, &mut Progress::new());
+    run.strings(1, true, true, &mut rng, &mut Progress::new());
     for i in 0..30_000 {
         run.formula(&mut rng, STYLES[i % STYLES.len()]);
         if i % 4 == 0 {

@@ -1,4 +1,4 @@
-//! The calls into the proved archive. All `unsafe` of the Rust side is in this file.
+//! The calls into the proved archive. All `unsafe` of what a program links is in this file.
 //!
 //! Each entry takes a slice as a pointer and a length, reads or writes only what the two span, keeps nothing, and always writes the
 //! numbers that it is lent places for. So a call through Rust's own slices and local variables is safe for every argument.

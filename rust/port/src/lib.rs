@@ -5,7 +5,7 @@
 //! entries have an archive of their own beside it, `libtext_entries.a` (`rt staticlib text_entries`), for where the whole one is not there.
 //!
 //! Numbers, places and lengths are those of `docs/FORMAT.md`; nothing here judges them. The calls into the archive are all in one
-//! file, and it has the only `unsafe` of the Rust side.
+//! file, and it has the only `unsafe` of what a program links (`bench_unifier` has two calls of its own).
 
 #![deny(unsafe_code)]
 

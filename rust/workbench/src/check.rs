@@ -17,9 +17,9 @@ use crate::types::{Names, Type, take_name};
 /// ```
 #[derive(Debug, Clone, Copy, PartialEq, Eq)]
 pub struct Checker {
-    /// How many nodes an inference may make, at most 32,768. Up to 2,048 (the default) it needs no memory from outside.
+    /// How many nodes an inference may make, at most 32,768. At 2,048, the default, the entry works in memory of its own; at any other the checker lends it.
     pub capacity: u32,
-    /// How many units an inference may pay; 100 million by default, which is more than any formula that people wrote asks for.
+    /// How many units an inference may pay; 100 million by default. A formula of a line asks for some hundreds.
     pub budget: u64,
     /// The room that an answer is given first, in bytes. Where it is too little the question is asked again with eight times as much.
     pub output: usize,

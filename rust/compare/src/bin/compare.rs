@@ -59,9 +59,7 @@ fn main() {
     if infer {
         run.systematic(&mut rng);
     }
-    if infer && text {
-        run.strings(strings, &mut rng, &mut progress);
-    }
+    run.strings(strings, infer, text, &mut rng, &mut progress);
     for i in 0..cases {
         if infer {
             let style = STYLES[(i % STYLES.len() as u64) as usize];
