@@ -33,7 +33,7 @@ same-length c = search needs
 
 -- src/lib.rt:372:1
 returns : tie.Need-returns
-returns c = lent-unify _ (c .before .before .before .before .before .before .args .size) (c .before .before .before .before .within .result) _ _ _ _ (c .before .before .before .before .before .before .args .work .now) (c .before .before .unify .last .0) (lent (c .before .before .before .before .before .before .args .size) (c .before .before .before .before .within .result) (c .before .before .before .before .before .before .args .work .now) (c .before .before .unify .last .0) (c .before .before .before .before .within .ensures .0) (c .before .before .unify .kept .0)) (c .before .before .unify .ensures)
+returns c = lent-unify (c .before .before .unify .result) (c .before .before .before .before .before .before .args .size) (c .before .before .before .before .within .result) _ _ _ _ (c .before .before .before .before .before .before .args .work .now) (c .before .before .unify .last .0) (lent (c .before .before .before .before .before .before .args .size) (c .before .before .before .before .within .result) (c .before .before .before .before .before .before .args .work .now) (c .before .before .unify .last .0) (c .before .before .before .before .within .ensures .0) (c .before .before .unify .kept .0)) (c .before .before .unify .ensures)
 
 pub unified-spec : {M : Type 1} → statement M
 unified-spec =

@@ -30,22 +30,22 @@ enum-told-2 c = search needs
 
 -- src/lib.rt:40:1
 returns : tie.Need-returns
-unfolding toldAs told
+unfolding toldAs
 returns c = sym (sym (c .before .before .before .solved .ensures) ∙ ap told (c .before .told .given .1))
 
 -- src/lib.rt:40:1
 returns-2 : tie.Need-returns-2
-unfolding toldAs told
+unfolding toldAs
 returns-2 c = sym (sym (c .before .before .before .solved .ensures) ∙ ap told (c .before .told2 .given .1))
 
 -- src/lib.rt:40:1
 returns-3 : tie.Need-returns-3
-unfolding toldAs told
+unfolding toldAs
 returns-3 c = sym (sym (c .before .before .solved .ensures) ∙ ap told (c .enum-told .given .1))
 
 -- src/lib.rt:40:1
 returns-4 : tie.Need-returns-4
-unfolding toldAs told
+unfolding toldAs
 returns-4 c = sym (sym (c .before .before .solved .ensures) ∙ ap told (c .enum-told2 .given .1))
 
 pub trial-solved-spec : {M : Type 1} → statement M

@@ -38,7 +38,7 @@ same-length c = search needs
 
 -- src/lib.rt:10:1
 returns : tie.Need-returns
-unfolding unifiedAs settled
+unfolding unifiedAs
 returns c = sym (sym (c .before .before .before .before .before .unify .ensures) ∙ ap (λ r. settled r (c .before .before .before .before .before .unify .last .0)) (c .before .ended .given .1))
 
 -- src/lib.rt:10:1
@@ -47,7 +47,7 @@ same-length-2 c = search needs
 
 -- src/lib.rt:10:1
 returns-2 : tie.Need-returns-2
-unfolding unifiedAs settled
+unfolding unifiedAs
 returns-2 c = sym (sym (c .before .before .before .before .before .unify .ensures) ∙ ap (λ r. settled r (c .before .before .before .before .before .unify .last .0)) (c .before .ended2 .given .1))
 
 -- src/lib.rt:10:1
@@ -56,7 +56,7 @@ same-length-3 c = search needs
 
 -- src/lib.rt:10:1
 returns-3 : tie.Need-returns-3
-unfolding unifiedAs settled
+unfolding unifiedAs
 returns-3 c = sym (sym (c .before .before .before .before .before .unify .ensures) ∙ ap (λ r. settled r (c .before .before .before .before .before .unify .last .0)) (c .before .ended3 .given .1))
 
 -- src/lib.rt:10:1
@@ -65,7 +65,7 @@ same-length-4 c = search needs
 
 -- src/lib.rt:10:1
 returns-4 : tie.Need-returns-4
-unfolding unifiedAs settled
+unfolding unifiedAs
 returns-4 c = sym (sym (c .before .before .before .before .unify .ensures) ∙ ap (λ r. settled r (c .before .before .before .before .unify .last .0)) (c .enum-told .given .1))
 
 -- src/lib.rt:10:1
@@ -74,7 +74,7 @@ same-length-5 c = search needs
 
 -- src/lib.rt:10:1
 returns-5 : tie.Need-returns-5
-unfolding unifiedAs settled
+unfolding unifiedAs
 returns-5 c = sym (sym (c .before .before .before .before .unify .ensures) ∙ ap (λ r. settled r (c .before .before .before .before .unify .last .0)) (c .enum-told2 .given .1))
 
 pub trial-unify-spec : {M : Type 1} → statement M
