@@ -52,11 +52,15 @@ formulas =
     ∷ (0x30 ∷ 0x00 ∷ [])  -- no target
     ∷ (0x31 ∷ 0x02 ∷ 0x01 ∷ 0x00 ∷ 0x00 ∷ 0x01 ∷ 0x00 ∷ 0x00 ∷ 0x04 ∷ 0x08 ∷ [])  -- a target twice
     ∷ (0x29 ∷ 0x00 ∷ 0x00 ∷ [])  -- an application of nothing
+    ∷ (0x05 ∷ 0x01 ∷ 0x04 ∷ replicate 1025 0x03)  -- slot 1,025: the extension has one, and 1,024 members
+    ∷ (replicate 64 0x25 ++ (0x27 ∷ 0x03 ∷ []))  -- an expression at depth 65
+    ∷ (replicate 64 0x25 ++ (0x26 ∷ 0x01 ∷ 0x10 ∷ 0x20 ∷ []))  -- a declaration at depth 65
+    ∷ (replicate 63 0x25 ++ (0x26 ∷ 0x01 ∷ 0x12 ∷ 0x4F ∷ 0x20 ∷ []))  -- a 4F at depth 65
     ∷ []
 
 pub formula-cases :
     each formula formulas ≡
-    ((0, 0) ∷ (4, 0) ∷ (4, 0) ∷ (0, 0) ∷ (5, 65) ∷ (4, 65) ∷ (4, 65) ∷ (0, 0) ∷ (5, 66) ∷ (4, 0) ∷ (4, 3) ∷ (4, 1) ∷ (4, 0) ∷ (4, 0) ∷ (4, 0) ∷ (4, 2) ∷ (4, 1) ∷ (0, 0) ∷ (4, 0) ∷ (4, 1) ∷ (4, 2) ∷ (4, 0) ∷ (0, 0) ∷ (0, 0) ∷ [])
+    ((0, 0) ∷ (4, 0) ∷ (4, 0) ∷ (0, 0) ∷ (5, 65) ∷ (4, 65) ∷ (4, 65) ∷ (0, 0) ∷ (5, 66) ∷ (4, 0) ∷ (4, 3) ∷ (4, 1) ∷ (4, 0) ∷ (4, 0) ∷ (4, 0) ∷ (4, 2) ∷ (4, 1) ∷ (0, 0) ∷ (4, 0) ∷ (4, 1) ∷ (4, 2) ∷ (4, 0) ∷ (0, 0) ∷ (0, 0) ∷ (5, 1026) ∷ (5, 65) ∷ (5, 66) ∷ (5, 66) ∷ [])
 unfolding typeAt typeBy headOf givenOf deepBy R.andThen byteOf byteAt onByte onWord wordAt nameAt opAt countAt fewAt exprBody exprHead predBody predHead declBody declHead targetAt andThen onNext many moved ownOf declareOf closed closing typeGot typeIn noType spelledIn spellingIn declBy declIf declAt declsAt exprBy predBy exprIf predIf exprDeep predDeep exprAt predAt targetBy targetIn pairIn targetsAt pairsAt becomesBy becomesAt rootBy formulaAt finish whole parsedBy parseOf formOf numberOf formula-number placeOf
 formula-cases = refl
 

@@ -1,4 +1,4 @@
--- What an answer of type inference says of a formula's typings, and what its steps mean: demand 3, end to end.
+-- What an answer of type inference says of a formula's typings, and what its steps mean, from end to end.
 --
 -- How to read this file. `inferOf formula environment names capacity budget room work` is the answer of the entry on these bytes, with
 -- an output of `room` bytes and a work slice of `work` words: a number, a place, a length (`size`), steps, and the bytes written. It

@@ -1,4 +1,4 @@
--- The limits, each once; the code has them at the head of crate `types`. After this file a reader knows every number that a larger checker would change.
+-- The limits, each once; the code has them at the head of crate `types`. After this file a reader knows where a larger checker begins.
 use Prim.Native.Nat.{ℕ}
 
 -- the bytes of a formula, of an environment or of a name table

@@ -67,6 +67,11 @@ right-clashes : unify 5 (unknown ++ (bool ++ (int ++ (product 0 1 ++ product 2 2
 unfolding unify
 right-clashes = refl
 
+-- the same where the budget ends in the right half: what the left half bound stands too
+bound-then-spent : unify 5 (unknown ++ (bool ++ (int ++ (product 0 1 ++ product 2 2))), 3, 4) 3 ≡ spent (bound 2 ++ (bool ++ (int ++ (product 0 1 ++ product 2 2))))
+unfolding unify
+bound-then-spent = refl
+
 -- two unknowns: the left one is bound; a left node against an unknown: the right one is
 left-first : unify 2 (unknown ++ unknown, 0, 1) 10 ≡ done (unified, bound 1 ++ unknown) 8
 unfolding unify

@@ -210,27 +210,6 @@ module _ (n : ℕ) (at at′ : Nodes) (v t : ℕ) (here : at′ v ≡ link t) (t
   pub bind-takes : Admits n at σ → σ v ≡ σ t → Admits n at′ σ
   bind-takes A q x l = bind-takes-at A q x l (ℕ-discrete x v)
 
--- a chain of bindings shortened: x, bound, is bound to r instead, further down its chain
-module _ (n : ℕ) (at at′ : Nodes) (x r : ℕ) (here : at′ x ≡ link r) (there : (y : ℕ) → y ≢ x → at′ y ≡ at y) (G : Good n at)
-    (rl : r < n) (same : G .tree x ≡ G .tree r) (down : G .rank r < G .rank x) where
-  short-fits : (y : ℕ) → y < n → Dec (y ≡ x) → Fits n (G .tree) (G .rank) y (at′ y)
-  short-fits y l (yes e) =
-      let w : Fits n (G .tree) (G .rank) x (link r) = (rl, same, down) in
-      subst (λ (z : ℕ). Fits n (G .tree) (G .rank) z (at′ z)) (sym e) (subst (λ (k : Node). Fits n (G .tree) (G .rank) x k) (sym here) w)
-  short-fits y l (no h) = subst (λ (k : Node). Fits n (G .tree) (G .rank) y k) (sym (there y h)) (G .fits y l)
-
-  pub good-shorten : Good n at′
-  good-shorten = record { tree = G .tree; rank = G .rank; fits = λ y l. short-fits y l (ℕ-discrete y x) }
-
-  short-says : (σ : Assignment) → x < n → Admits n at σ → (y : ℕ) → y < n → Dec (y ≡ x) → Says σ y (at′ y)
-  short-says σ xl A y l (yes e) =
-      let q : σ x ≡ σ r = spelt n at G σ A x xl ∙ ap (eval σ) same ∙ sym (spelt n at G σ A r rl) in
-      subst (λ (z : ℕ). Says σ z (at′ z)) (sym e) (subst (λ (k : Node). Says σ x k) (sym here) q)
-  short-says σ xl A y l (no h) = subst (λ (k : Node). Says σ y k) (sym (there y h)) (A y l)
-
-  pub shorten-takes : (σ : Assignment) → x < n → Admits n at σ → Admits n at′ σ
-  shorten-takes σ xl A y l = short-says σ xl A y l (ℕ-discrete y x)
-
 -- a new node, at n: its references lie below
 abbrev pub Inside : ℕ → Node → Type 0
 Inside n free = Unit {0}

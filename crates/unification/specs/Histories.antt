@@ -1,4 +1,4 @@
--- The makers belong to histories: whatever they answer, the arena stays one that public calls reach.
+-- The makers of one node belong to histories: whatever they answer, the arena stays one that public calls reach. (A relation is two such calls.)
 use Prim.Native.Nat.{ℕ, zero, suc, _+_, _*_, _≤_, _<_}
 use mathlib.Core.Path.{_≡_, refl, sym, _∙_, ap, subst}
 use mathlib.Core.Bool.{Bool, true, false, _&&_}

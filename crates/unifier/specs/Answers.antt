@@ -1,6 +1,6 @@
 -- How the code's answers are read: each case of each enum as a node, or as an outcome of the definitions of crate `unification`.
 --
--- `spent` is 01's number 7, `halt broken` its 2, `halt full` its 6; `done` has the answer and the budget left.
+-- `spent` is number 7, `halt broken` 2, `halt full` 6; `done` has the answer and the budget left.
 -- Where a function changes the words, the reading takes them as they are at exit, so that one equation says answer and words.
 use Prim.Native.Nat.{ℕ}
 use mathlib.Core.Bool.{Bool, true, false}
