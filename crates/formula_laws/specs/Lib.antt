@@ -12,3 +12,5 @@ pub mod Faults
 pub mod FaultPlace
 pub mod EnvironmentFault
 pub mod Stays
+pub mod Due
+pub mod FaultMeans
