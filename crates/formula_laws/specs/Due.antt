@@ -162,9 +162,11 @@ module _ (names : ℕ) (s : List ℕ) where
       (pick (ltb k 0x30) (opens (pred-due 0 ∷ []) st)
       (onByte absent (fewAt s p) (becomes-opens st k)))
 
+  -- the head of the type record at p
   unfoldable pub typeHead : Place → Head
   typeHead p = headOf names (p .0) (drop (p .0) s)
 
+  -- what the bytes at a state's place say to what is due
   unfoldable pub openOf : Due → St → Opening
   openOf formula-due st = onByte absent (byteAt s (st .at)) (root-opens st)
   openOf target-due st = target-opens st (targetAt names s (st .at))
@@ -198,6 +200,7 @@ module _ (names : ℕ) (s : List ℕ) where
   unfoldable pub Assigns : ℕ → Place → Type 0
   Assigns k e = (n : ℕ) × (q : Place) × (fewAt s e ≡ B.Of (suc n) q) × (0x30 ≤ k) × (k ≤ 0x32)
 
+  -- no formula: no byte, or one at or above 30 that begins no assignment
   unfoldable pub Lacks : Due → Place → Type 0
   Lacks formula-due p = (k : ℕ) (e : Place) → byteAt s p ≡ B.Of k e → (0x30 ≤ k) × (Assigns k e → ⊥)
   Lacks target-due p = targetAt names s p ≡ W.Missing

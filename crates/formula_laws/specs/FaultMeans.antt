@@ -638,6 +638,16 @@ module _ (names : ℕ) (s : List ℕ) where
 
   -- ---- the two numbers
 
+  goes-low : {t u : St} {k l : List Due} → Goes names s t k u l → Low t → Low u
+  unfolding Low Within
+  goes-low stay w = w
+  goes-low (onward e i g) w = goes-low g (i .1, i .2)
+
+  -- no limit is passed up to a state that is reached; so the head that passes one is the first
+  pub goes-inside : {t : St} {k : List Due} → Goes names s start all-due t k → (t .slots ≤ max-slots) × (t .opened ≤ max-opened)
+  unfolding Low
+  goes-inside g = goes-low g (omega arith, omega arith)
+
   -- a limit: inside the limits a state is reached at p; what is due there stands there, and passes a limit
   pub beyond-means : (p : Place) → parseOf names s ≡ faulty (Beyond p) → (t : St) × (d : Due) × (k : List Due) × Goes names s start all-due t (d ∷ k) × (t .at ≡ p) × Stands names s d p × Passes d t
   unfolding Meant

@@ -14,3 +14,4 @@ pub mod EnvironmentFault
 pub mod Stays
 pub mod Due
 pub mod FaultMeans
+pub mod EnvironmentMeans
