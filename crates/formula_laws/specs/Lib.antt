@@ -12,3 +12,4 @@ pub mod Faults
 pub mod FaultPlace
 pub mod EnvironmentFault
 pub mod Stays
+pub mod EnvironmentStays
