@@ -151,7 +151,7 @@ byte-cong : {A : Type 0} (z : A) (f : ℕ → Place → A) (w v : Byte) → w �
 byte-cong z f w v e = rw e
 
 module _ (names : ℕ) (s s′ : List ℕ) (m : ℕ) (short : m ≤ length s) (short′ : m ≤ length s′) (agree : (i : ℕ) → i < m → getD s i 0 ≡ getD s′ i 0) (bytes : (i : ℕ) → getD s i 0 < 256) where
-  on-byte-same : {A : Type 0} (z : A) (p : Place) (f f′ : ℕ → Place → A) → p .0 < m → ((b : ℕ) (e : Place) → e .0 ≡ p .0 + 1 → f b e ≡ f′ b e) → onByte z (byteAt s p) f ≡ onByte z (byteAt s′ p) f′
+  pub on-byte-same : {A : Type 0} (z : A) (p : Place) (f f′ : ℕ → Place → A) → p .0 < m → ((b : ℕ) (e : Place) → e .0 ≡ p .0 + 1 → f b e ≡ f′ b e) → onByte z (byteAt s p) f ≡ onByte z (byteAt s′ p) f′
   unfolding onByte
   on-byte-same z p f f′ h c =
       rw (← byte-in s p (omega arith), ← byte-in s′ p (omega arith))
@@ -161,7 +161,7 @@ module _ (names : ℕ) (s s′ : List ℕ) (m : ℕ) (short : m ≤ length s) (s
   unfolding wordAt
   word-same p h = on-byte-same W.Missing p _ _ (omega arith) (λ lo q e. on-byte-same W.Missing q _ _ (omega arith) (λ hi r i. refl))
 
-  name-same : (p : Place) → p .0 + 1 < m → nameAt names s p ≡ nameAt names s′ p
+  pub name-same : (p : Place) → p .0 + 1 < m → nameAt names s p ≡ nameAt names s′ p
   unfolding nameAt
   name-same p h = ap (λ (w : Word). onWord W.Missing w λ n e. pick (ltb n names) (W.Of n e) W.Missing) (word-same p h)
 
@@ -238,7 +238,7 @@ module _ (names : ℕ) (s s′ : List ℕ) (m : ℕ) (short : m ≤ length s) (s
   -- ---- types
 
   -- a type's reading, as far as m bytes show it
-  unfoldable RepT : ℕ → TypeAt → TypeAt → Type 0
+  unfoldable pub RepT : ℕ → TypeAt → TypeAt → Type 0
   RepT p (got t e) x = (p ≤ e) × (e + 4 ≤ m → x ≡ got t e)
   RepT p (malformed q) x = (p ≤ q) × (q + 4 ≤ m → x ≡ malformed q)
   RepT p (deep q) x = (p ≤ q) × (q + 4 ≤ m → x ≡ deep q)
@@ -301,7 +301,7 @@ module _ (names : ℕ) (s s′ : List ℕ) (m : ℕ) (short : m ≤ length s) (s
   deep-by-rep p (R.power e) = (omega arith, λ i. refl)
   deep-by-rep p (R.product e) = (omega arith, λ i. refl)
 
-  type-rep : (left p : ℕ) → RepT p (typeAt left names s p) (typeAt left names s′ p)
+  pub type-rep : (left p : ℕ) → RepT p (typeAt left names s p) (typeAt left names s′ p)
   unfolding typeAt
   type-rep zero p = go (decLe (p + 4) m)
     where

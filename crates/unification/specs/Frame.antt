@@ -333,14 +333,14 @@ benches-trans s s′ t t′ u u′ p q =
     }
 
 -- a node made on both sides
-push-both : (ws ws′ : Words) (n k a b i : ℕ) → 3 * suc n ≤ length ws → 3 * suc n ≤ length ws′ → i < 3 * suc n → (i < 3 * n → getD ws i 0 ≡ getD ws′ i 0) → getD (pushAt ws n k a b) i 0 ≡ getD (pushAt ws′ n k a b) i 0
+pub push-both : (ws ws′ : Words) (n k a b i : ℕ) → 3 * suc n ≤ length ws → 3 * suc n ≤ length ws′ → i < 3 * suc n → (i < 3 * n → getD ws i 0 ≡ getD ws′ i 0) → getD (pushAt ws n k a b) i 0 ≡ getD (pushAt ws′ n k a b) i 0
 unfolding pushAt
 push-both ws ws′ n k a b i p q l e =
     set-both (set (set ws (3 * n) k) (3 * n + 1) a) (set (set ws′ (3 * n) k) (3 * n + 1) a) (3 * n + 2) b i (simp length-set (omega arith)) (simp length-set (omega arith)) λ x.
     set-both (set ws (3 * n) k) (set ws′ (3 * n) k) (3 * n + 1) a i (simp length-set (omega arith)) (simp length-set (omega arith)) λ y.
     set-both ws ws′ (3 * n) k i (omega arith) (omega arith) λ z. e (omega arith)
 
-push-past : (ws : Words) (n k a b i : ℕ) → 3 * suc n ≤ i → getD (pushAt ws n k a b) i 0 ≡ getD ws i 0
+pub push-past : (ws : Words) (n k a b i : ℕ) → 3 * suc n ≤ i → getD (pushAt ws n k a b) i 0 ≡ getD ws i 0
 unfolding pushAt
 push-past ws n k a b i l = getD-set-other (set (set ws (3 * n) k) (3 * n + 1) a) (3 * n + 2) i b 0 (λ e. omega arith)
     ∙ getD-set-other (set ws (3 * n) k) (3 * n + 1) i a 0 (λ e. omega arith) ∙ getD-set-other ws (3 * n) i k 0 (λ e. omega arith)

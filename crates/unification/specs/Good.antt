@@ -362,7 +362,7 @@ node-bind-other ws n v t x h = node-as ws (bindAt ws v t) n n x (ap (λ (k : ℕ
 unfoldable pub pushAt : Words → ℕ → ℕ → ℕ → ℕ → Words
 pushAt ws n k a b = set (set (set ws (3 * n) k) (3 * n + 1) a) (3 * n + 2) b
 
-push-word : (ws : Words) (n k a b i : ℕ) → i < 3 * n → getD (pushAt ws n k a b) i 0 ≡ getD ws i 0
+pub push-word : (ws : Words) (n k a b i : ℕ) → i < 3 * n → getD (pushAt ws n k a b) i 0 ≡ getD ws i 0
 unfolding pushAt
 push-word ws n k a b i l = getD-set-other (set (set ws (3 * n) k) (3 * n + 1) a) (3 * n + 2) i b 0 (λ e. omega arith)
     ∙ getD-set-other (set ws (3 * n) k) (3 * n + 1) i a 0 (λ e. omega arith) ∙ getD-set-other ws (3 * n) i k 0 (λ e. omega arith)

@@ -15,6 +15,7 @@ pub mod Kinds
 pub mod Tasks
 pub mod Make
 pub mod Frame
+pub mod Past
 pub mod Put
 pub mod Histories
 pub mod ByRule
