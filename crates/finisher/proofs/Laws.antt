@@ -40,19 +40,19 @@ module _ (size : ℕ) (v r : State) (w out : List ℕ) where
 -- ---- the writer's answers: page is the output after it
 module _ (size : ℕ) (v r : State) (w out page : List ℕ) where
   pub laid-at : (n l : ℕ) (o : Out P.Page P.Sheet) → laid (Wr.At n l) page ≡ o → r ≡ bytesOf n v → mach size r w page ≡ laidBy o (mach size v w out)
-  unfolding laid laidBy then
+  unfolding laidBy then
   laid-at n l o e h = ap (λ (y : State). mach size y w page) h ∙ ap (λ (y : Out P.Page P.Sheet). laidBy y (mach size v w out)) e
 
   pub laid-full : (o : Out P.Page P.Sheet) → laid Wr.Full page ≡ o → r ≡ overOf v → mach size r w page ≡ laidBy o (mach size v w out)
-  unfolding laid laidBy then
+  unfolding laidBy then
   laid-full o e h = ap (λ (y : State). mach size y w page) h ∙ ap (λ (y : Out P.Page P.Sheet). laidBy y (mach size v w out)) e
 
   pub laid-spent : (o : Out P.Page P.Sheet) → laid Wr.Spent page ≡ o → r ≡ stoppedOf 2 v → mach size r w page ≡ laidBy o (mach size v w out)
-  unfolding laid laidBy then
+  unfolding laidBy then
   laid-spent o e h = ap (λ (y : State). mach size y w page) h ∙ ap (λ (y : Out P.Page P.Sheet). laidBy y (mach size v w out)) e
 
   pub laid-broken : (o : Out P.Page P.Sheet) → laid Wr.Broken page ≡ o → r ≡ stoppedOf 2 v → mach size r w page ≡ laidBy o (mach size v w out)
-  unfolding laid laidBy then
+  unfolding laidBy then
   laid-broken o e h = ap (λ (y : State). mach size y w page) h ∙ ap (λ (y : Out P.Page P.Sheet). laidBy y (mach size v w out)) e
 
 -- ---- rows

@@ -5,7 +5,7 @@ use Rattle.unification.specs.Put.{Page, Sheet}
 use Rattle.write.specs.declared.Wrote.{Wrote}
 use Rattle.write.specs.declared.Wrote.the-variants as W
 
-unfoldable pub laid : Wrote → Page → Out Page Sheet
+abbrev pub laid : Wrote → Page → Out Page Sheet
 laid (W.At at l) p = done (at, p) l
 laid W.Full p = halt full p
 laid W.Spent p = spent p

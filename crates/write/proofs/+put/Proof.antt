@@ -30,7 +30,7 @@ abbrev put-env : ℕ → put-lts.Claims
 put-env t = (visit-reads.Asked, visit-reads.Learnt, put-below t, put.Post)
 
 put-returns : (t : ℕ) → put-lts.Need-returns (put-env t) (put-at t) put.Post
-unfolding arrived nodeOf laid
+unfolding arrived nodeOf
 put-returns t c = sym (put-none _ _ _ _ _ _ (c .if1 .taken))
 
 put-visit-requires : (t : ℕ) → put-lts.Need-visit-requires (put-env t) (put-at t) put.Post
@@ -61,7 +61,7 @@ put-sub-if2 : (t : ℕ) → put-lts.Need-sub-if2 (put-env t) (put-at t) put.Post
 put-sub-if2 t c = search needs
 
 put-returns-2 : (t : ℕ) → put-lts.Need-returns-2 (put-env t) (put-at t) put.Post
-unfolding arrived nodeOf laid
+unfolding arrived nodeOf
 put-returns-2 t c = sym (put-given-full _ _ _ _ _ _ (c .before .before .before .before .before .before .if1 .left) _ _ _ _ _ (sym (c .before .before .before .before .before .visit .ensures) ∙ ap arrived (c .before .before .before .seen .given .1)) (c .before .match2 .keys3) (omega (arith, c .if2 .taken, c .before .before .before .before .before .before .if1 .left)))
 
 put-slice-write-page-3 : (t : ℕ) → put-lts.Need-slice-write-page-3 (put-env t) (put-at t) put.Post
@@ -112,7 +112,7 @@ put-enum-known-first : (t : ℕ) → put-lts.Need-enum-known-first (put-env t) (
 put-enum-known-first t c = search needs
 
 put-put-requires-3 : (t : ℕ) → put-lts.Need-put-requires-3 (put-env t) (put-at t) put.Post
-unfolding arrived nodeOf laid
+unfolding arrived nodeOf
 put-put-requires-3 t c κs = (omega (arith, reach-left _ _ _ _ _ _ (sym (c .before .before .before .before .before .before .before .before .before .before .before .before .visit .ensures) ∙ ap arrived (c .before .before .before .before .before .before .before .before .before .before .seen .given .1)), put-left _ _ _ _ _ _ (sym (c .before .before .before .before .before .before .put2 .ensures) ∙ ap (λ r. laid r (c .before .before .before .before .before .before .put2 .last .1 .1 .0)) (c .before .before .first .given .1)), c .before .before .before .before .before .before .before .before .before .before .before .before .before .before .before .before .pre .0), tt)
 
 put-enum-told-3 : (t : ℕ) → put-lts.Need-enum-told-3 (put-env t) (put-at t) put.Post
@@ -125,71 +125,71 @@ put-enum-told-5 : (t : ℕ) → put-lts.Need-enum-told-5 (put-env t) (put-at t) 
 put-enum-told-5 t c = search needs
 
 put-returns-3 : (t : ℕ) → put-lts.Need-returns-3 (put-env t) (put-at t) put.Post
-unfolding arrived nodeOf laid
+unfolding arrived nodeOf
 put-returns-3 t c = sym (put-spent _ _ _ _ _ _ (c .before .before .before .if1 .left) (sym (c .before .before .visit .ensures) ∙ ap arrived (c .enum-told .given .1)))
 
 put-returns-4 : (t : ℕ) → put-lts.Need-returns-4 (put-env t) (put-at t) put.Post
-unfolding arrived nodeOf laid
+unfolding arrived nodeOf
 put-returns-4 t c = sym (put-broken _ _ _ _ _ _ (c .before .before .before .if1 .left) (sym (c .before .before .visit .ensures) ∙ ap arrived (c .enum-told2 .given .1)))
 
 put-same-length : (t : ℕ) → put-lts.Need-same-length (put-env t) (put-at t) put.Post
 put-same-length t c = search needs
 
 put-returns-5 : (t : ℕ) → put-lts.Need-returns-5 (put-env t) (put-at t) put.Post
-unfolding arrived nodeOf laid
+unfolding arrived nodeOf
 put-returns-5 t c = sym (put-bool _ _ _ _ _ _ (c .before .before .before .before .before .if1 .left) _ _ _ _ _ (sym (c .before .before .before .before .visit .ensures) ∙ ap arrived (c .before .before .seen .given .1)) (c .match2 .keys1))
 
 put-same-length-2 : (t : ℕ) → put-lts.Need-same-length-2 (put-env t) (put-at t) put.Post
 put-same-length-2 t c = search needs
 
 put-returns-6 : (t : ℕ) → put-lts.Need-returns-6 (put-env t) (put-at t) put.Post
-unfolding arrived nodeOf laid
+unfolding arrived nodeOf
 put-returns-6 t c = sym (put-int _ _ _ _ _ _ (c .before .before .before .before .before .if1 .left) _ _ _ _ _ (sym (c .before .before .before .before .visit .ensures) ∙ ap arrived (c .before .before .seen .given .1)) (c .match2 .keys2))
 
 put-same-length-3 : (t : ℕ) → put-lts.Need-same-length-3 (put-env t) (put-at t) put.Post
 put-same-length-3 t c = search needs
 
 put-returns-7 : (t : ℕ) → put-lts.Need-returns-7 (put-env t) (put-at t) put.Post
-unfolding arrived nodeOf laid
+unfolding arrived nodeOf
 put-returns-7 t c = sym (put-given _ _ _ _ _ _ (c .before .before .before .before .before .before .before .before .if1 .left) _ _ _ _ _ (sym (c .before .before .before .before .before .before .before .visit .ensures) ∙ ap arrived (c .before .before .before .before .before .seen .given .1)) (c .before .before .before .match2 .keys3) (omega (arith, c .before .before .if2 .left, c .before .before .before .before .before .before .before .before .if1 .left)))
 
 put-same-length-4 : (t : ℕ) → put-lts.Need-same-length-4 (put-env t) (put-at t) put.Post
 put-same-length-4 t c = c .before .before .put .kept .1 .1 .0 ∙ simp length-set
 
 put-returns-8 : (t : ℕ) → put-lts.Need-returns-8 (put-env t) (put-at t) put.Post
-unfolding arrived nodeOf laid
+unfolding arrived nodeOf
 put-returns-8 t c = c .before .before .put .ensures ∙ sym (put-power _ _ _ _ _ _ (c .before .before .before .before .before .before .before .before .before .if1 .left) _ _ _ _ _ (sym (c .before .before .before .before .before .before .before .before .visit .ensures) ∙ ap arrived (c .before .before .before .before .before .before .seen .given .1)) (c .before .before .before .before .match2 .keys4))
 
 put-same-length-5 : (t : ℕ) → put-lts.Need-same-length-5 (put-env t) (put-at t) put.Post
 put-same-length-5 t c = c .before .before .put3 .kept .1 .1 .0 ∙ c .before .before .before .before .before .before .before .before .before .put2 .kept .1 .1 .0 ∙ simp length-set
 
 put-returns-9 : (t : ℕ) → put-lts.Need-returns-9 (put-env t) (put-at t) put.Post
-unfolding arrived nodeOf laid
+unfolding arrived nodeOf
 put-returns-9 t c = c .before .before .put3 .ensures ∙ sym (put-right _ _ _ _ _ _ (c .before .before .before .before .before .before .before .before .before .before .before .before .before .before .before .before .if1 .left) _ _ _ _ _ (sym (c .before .before .before .before .before .before .before .before .before .before .before .before .before .before .before .visit .ensures) ∙ ap arrived (c .before .before .before .before .before .before .before .before .before .before .before .before .before .seen .given .1)) (c .before .before .before .before .before .before .before .before .before .before .before .match2 .keys5) _ _ _ (sym (c .before .before .before .before .before .before .before .before .before .put2 .ensures) ∙ ap (λ r. laid r (c .before .before .before .before .before .before .before .before .before .put2 .last .1 .1 .0)) (c .before .before .before .before .before .first .given .1)))
 
 put-same-length-6 : (t : ℕ) → put-lts.Need-same-length-6 (put-env t) (put-at t) put.Post
 put-same-length-6 t c = c .before .before .before .before .put2 .kept .1 .1 .0 ∙ simp length-set
 
 put-returns-10 : (t : ℕ) → put-lts.Need-returns-10 (put-env t) (put-at t) put.Post
-unfolding arrived nodeOf laid
+unfolding arrived nodeOf
 put-returns-10 t c = sym (put-left-halt _ _ _ _ _ _ (c .before .before .before .before .before .before .before .before .before .before .before .if1 .left) _ _ _ _ _ (sym (c .before .before .before .before .before .before .before .before .before .before .visit .ensures) ∙ ap arrived (c .before .before .before .before .before .before .before .before .seen .given .1)) (c .before .before .before .before .before .before .match2 .keys5) _ _ (sym (c .before .before .before .before .put2 .ensures) ∙ ap (λ r. laid r (c .before .before .before .before .put2 .last .1 .1 .0)) (c .enum-told3 .given .1)))
 
 put-same-length-7 : (t : ℕ) → put-lts.Need-same-length-7 (put-env t) (put-at t) put.Post
 put-same-length-7 t c = c .before .before .before .before .put2 .kept .1 .1 .0 ∙ simp length-set
 
 put-returns-11 : (t : ℕ) → put-lts.Need-returns-11 (put-env t) (put-at t) put.Post
-unfolding arrived nodeOf laid
+unfolding arrived nodeOf
 put-returns-11 t c = sym (put-left-spent _ _ _ _ _ _ (c .before .before .before .before .before .before .before .before .before .before .before .if1 .left) _ _ _ _ _ (sym (c .before .before .before .before .before .before .before .before .before .before .visit .ensures) ∙ ap arrived (c .before .before .before .before .before .before .before .before .seen .given .1)) (c .before .before .before .before .before .before .match2 .keys5) _ (sym (c .before .before .before .before .put2 .ensures) ∙ ap (λ r. laid r (c .before .before .before .before .put2 .last .1 .1 .0)) (c .enum-told4 .given .1)))
 
 put-same-length-8 : (t : ℕ) → put-lts.Need-same-length-8 (put-env t) (put-at t) put.Post
 put-same-length-8 t c = c .before .before .before .before .put2 .kept .1 .1 .0 ∙ simp length-set
 
 put-returns-12 : (t : ℕ) → put-lts.Need-returns-12 (put-env t) (put-at t) put.Post
-unfolding arrived nodeOf laid
+unfolding arrived nodeOf
 put-returns-12 t c = sym (put-left-halt _ _ _ _ _ _ (c .before .before .before .before .before .before .before .before .before .before .before .if1 .left) _ _ _ _ _ (sym (c .before .before .before .before .before .before .before .before .before .before .visit .ensures) ∙ ap arrived (c .before .before .before .before .before .before .before .before .seen .given .1)) (c .before .before .before .before .before .before .match2 .keys5) _ _ (sym (c .before .before .before .before .put2 .ensures) ∙ ap (λ r. laid r (c .before .before .before .before .put2 .last .1 .1 .0)) (c .enum-told5 .given .1)))
 
 put-returns-13 : (t : ℕ) → put-lts.Need-returns-13 (put-env t) (put-at t) put.Post
-unfolding arrived nodeOf laid
+unfolding arrived nodeOf
 put-returns-13 t c = sym (put-other _ _ _ _ _ _ (c .before .before .before .before .before .if1 .left) _ _ _ _ _ (sym (c .before .before .before .before .visit .ensures) ∙ ap arrived (c .before .before .seen .given .1)) (c .match2 .rest .0 .0 .0 .0 .1) (c .match2 .rest .0 .0 .0 .1) (c .match2 .rest .0 .0 .1) (c .match2 .rest .0 .1) (c .match2 .rest .1))
 
 pub +put-spec : {M : Type 1} → statement M
