@@ -18,7 +18,7 @@ use Rattle.formula.specs.declared.Form.{Form}
 use Rattle.formula.specs.declared.Form.the-variants.{Good, TooLong, Bad}
 use Rattle.formula.specs.Environment.{Entry, lacks, holds, first, Env, Entries, lookup}
 use Rattle.formula.specs.EnvParse.{capped, environmentOf, Table}
-use Rattle.formula.specs.Heads.{pick}
+use Rattle.heads.specs.Heads.{pick}
 use Rattle.types.specs.Limits.{max-names}
 use Rattle.formula.specs.Parse.{Parsed, parsed, too-long, faulty, parseOf, formOf}
 use Rattle.formula.specs.Tree.{Formula}

@@ -10,12 +10,12 @@ use lib.Dec.{ltb, eqb}
 use Rattle.types.specs.declared.Place.{Place}
 use Rattle.types.specs.Ty.{Ty}
 use Rattle.types.specs.Record.{TypeAt, got, malformed, deep, typeAt}
-use Rattle.formula.specs.declared.Word.{Word}
-use Rattle.formula.specs.declared.Word.the-variants as W
+use Rattle.heads.specs.declared.Word.{Word}
+use Rattle.heads.specs.declared.Word.the-variants as W
 use Rattle.formula.specs.declared.Fault.{Fault}
 use Rattle.formula.specs.declared.Fault.the-variants.{Malformed, Beyond}
 use Rattle.formula.specs.Environment.{Entry, lacks, holds, Entries, lookup, spellEntry}
-use Rattle.formula.specs.Heads.{pick, place, byteAt, onByte, nameAt}
+use Rattle.heads.specs.Heads.{pick, place, byteAt, onByte, nameAt}
 use Rattle.formula.specs.Parse.{Parsed, parsed, too-long, faulty}
 use Rattle.types.specs.Limits.{max-bytes, max-depth, max-names}
 

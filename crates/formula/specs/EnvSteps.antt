@@ -17,17 +17,17 @@ use Rattle.types.specs.Ty.{Ty, spell}
 use Rattle.types.specs.Record.{TypeAt, got, malformed, deep, typeAt}
 use Rattle.types.specs.Code.{endOf}
 use Rattle.types.specs.Spellings.{read-stands, bytes-at}
-use Rattle.formula.specs.declared.Byte.{Byte}
-use Rattle.formula.specs.declared.Byte.the-variants as B
-use Rattle.formula.specs.declared.Word.{Word}
-use Rattle.formula.specs.declared.Word.the-variants as W
+use Rattle.heads.specs.declared.Byte.{Byte}
+use Rattle.heads.specs.declared.Byte.the-variants as B
+use Rattle.heads.specs.declared.Word.{Word}
+use Rattle.heads.specs.declared.Word.the-variants as W
 use Rattle.formula.specs.declared.Fault.{Fault}
 use Rattle.formula.specs.declared.Fault.the-variants.{Malformed, Beyond}
 use Rattle.formula.specs.declared.Form.the-variants.{Good, TooLong, Bad}
 use Rattle.formula.specs.declared.Entered.{Entered}
 use Rattle.formula.specs.declared.Entered.the-variants.{Wrong, Typed}
 use Rattle.formula.specs.Environment.{Entry, lacks, holds, Entries, first, lookup, spellEntry, spellEntries}
-use Rattle.formula.specs.Heads.{pick, place, byteOf, byteAt, onByte, onWord, wordAt, nameAt}
+use Rattle.heads.specs.Heads.{pick, place, byteOf, byteAt, onByte, onWord, wordAt, nameAt}
 use Rattle.formula.specs.Parse.{Parsed, parsed, too-long, faulty, formOf}
 use Rattle.formula.specs.EnvParse.{entryAt, typedBy, freshBy, entryBy, entriesFrom, capped, environmentOf, placesFrom, Cell, Table}
 use Rattle.formula.specs.EnvTold.{empty, blank, answerOf}

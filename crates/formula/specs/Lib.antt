@@ -1,8 +1,6 @@
 pub mod Tree
 pub mod Environment
 pub mod Spell
-pub mod Counts
-pub mod Heads
 pub mod Reader
 pub mod Parse
 pub mod EnvParse

@@ -8,28 +8,28 @@ use lib.ListN.{length}
 use lib.Dec.{leb, ltb, eqb}
 use Rattle.types.specs.declared.Place.{Place}
 use Rattle.types.specs.Ty.{Ty}
-use Rattle.formula.specs.declared.Byte.{Byte}
-use Rattle.formula.specs.declared.Word.{Word}
-use Rattle.formula.specs.declared.Word.the-variants as W
-use Rattle.formula.specs.declared.ExprHead.{ExprHead}
-use Rattle.formula.specs.declared.ExprHead.the-variants.{Free, Bound, Literal, Atomic, Extension, Truth, Binary, Associative, Unary, Quantified, Ascribed, Explicit}
-use Rattle.formula.specs.declared.PredHead.{PredHead}
-use Rattle.formula.specs.declared.PredHead.the-variants.{Constant, Variable, Relational, Connective, Junction, Negation, Quantification, Simple, Multiple, Application}
-use Rattle.formula.specs.declared.DeclHead.{DeclHead}
-use Rattle.formula.specs.declared.DeclHead.the-variants.{Plain, Typed, Annotated}
-use Rattle.formula.specs.declared.ExprAt.{ExprAt}
-use Rattle.formula.specs.declared.ExprAt.the-variants as E
-use Rattle.formula.specs.declared.PredAt.{PredAt}
-use Rattle.formula.specs.declared.PredAt.the-variants as P
-use Rattle.formula.specs.declared.DeclAt.{DeclAt}
-use Rattle.formula.specs.declared.DeclAt.the-variants as D
+use Rattle.heads.specs.declared.Byte.{Byte}
+use Rattle.heads.specs.declared.Word.{Word}
+use Rattle.heads.specs.declared.Word.the-variants as W
+use Rattle.heads.specs.declared.ExprHead.{ExprHead}
+use Rattle.heads.specs.declared.ExprHead.the-variants.{Free, Bound, Literal, Atomic, Extension, Truth, Binary, Associative, Unary, Quantified, Ascribed, Explicit}
+use Rattle.heads.specs.declared.PredHead.{PredHead}
+use Rattle.heads.specs.declared.PredHead.the-variants.{Constant, Variable, Relational, Connective, Junction, Negation, Quantification, Simple, Multiple, Application}
+use Rattle.heads.specs.declared.DeclHead.{DeclHead}
+use Rattle.heads.specs.declared.DeclHead.the-variants.{Plain, Typed, Annotated}
+use Rattle.heads.specs.declared.ExprAt.{ExprAt}
+use Rattle.heads.specs.declared.ExprAt.the-variants as E
+use Rattle.heads.specs.declared.PredAt.{PredAt}
+use Rattle.heads.specs.declared.PredAt.the-variants as P
+use Rattle.heads.specs.declared.DeclAt.{DeclAt}
+use Rattle.heads.specs.declared.DeclAt.the-variants as D
 use Rattle.formula.specs.declared.St.{St}
 use Rattle.formula.specs.declared.Fault.{Fault}
 use Rattle.formula.specs.declared.Fault.the-variants.{Malformed, Beyond}
 use Rattle.formula.specs.declared.Form.{Form}
 use Rattle.formula.specs.declared.Form.the-variants.{Good, TooLong, Bad}
 use Rattle.formula.specs.Tree.{Spelling, spells, no-type, Decl, plain, typed, annotated, Expr, free, bound, literal, atomic, extension, truth, binary, associative, unary, quantified, ascribed, explicit, Exprs, none, more, Pred, constant, variable, relational, connective, junction, negation, quantification, simple, multiple, application, Preds, end, also, Target, Formula, expression, predicate, becomes, becomes-in, becomes-such}
-use Rattle.formula.specs.Heads.{pick, place, byteAt, onByte, onWord, fewAt, exprHead, predHead, declHead, targetAt}
+use Rattle.heads.specs.Heads.{pick, place, byteAt, onByte, onWord, fewAt, exprHead, predHead, declHead, targetAt}
 use Rattle.formula.specs.Reader.{Got, ok, bad, andThen, onNext, many, moved, ownOf, declareOf, closing, typeIn, spellingIn}
 use Rattle.types.specs.Limits.{max-bytes, max-depth, levels}
 

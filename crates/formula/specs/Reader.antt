@@ -13,7 +13,7 @@ use Rattle.formula.specs.declared.Fault.the-variants.{Malformed, Beyond}
 use Rattle.formula.specs.declared.Out.{Out}
 use Rattle.formula.specs.declared.Out.the-variants.{Next, Stop}
 use Rattle.formula.specs.Tree.{Spelling, spells, no-type}
-use Rattle.formula.specs.Heads.{pick, place, byteAt, onByte}
+use Rattle.heads.specs.Heads.{pick, place, byteAt, onByte}
 use Rattle.types.specs.Limits.{max-slots, max-opened}
 
 -- ---- reading: a value and the state after it, or the first fault

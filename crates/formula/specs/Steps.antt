@@ -15,51 +15,34 @@ use Rattle.types.specs.declared.TypeEnd.{TypeEnd}
 use Rattle.types.specs.declared.TypeEnd.the-variants as T
 use Rattle.types.specs.Record.{TypeAt, got, malformed, deep, typeAt}
 use Rattle.types.specs.Code.{endOf}
-use Rattle.formula.specs.declared.Byte.{Byte}
-use Rattle.formula.specs.declared.Byte.the-variants as B
-use Rattle.formula.specs.declared.Word.{Word}
-use Rattle.formula.specs.declared.Word.the-variants as W
+use Rattle.heads.specs.declared.Byte.{Byte}
+use Rattle.heads.specs.declared.Byte.the-variants as B
+use Rattle.heads.specs.declared.Word.{Word}
+use Rattle.heads.specs.declared.Word.the-variants as W
 use Rattle.formula.specs.declared.Form.{Form}
 use Rattle.formula.specs.declared.Form.the-variants.{Good, TooLong, Bad}
-use Rattle.formula.specs.declared.ExprHead.{ExprHead}
-use Rattle.formula.specs.declared.ExprHead.the-variants.{Free, Bound, Literal, Atomic, Extension, Truth, Binary, Associative, Unary, Quantified, Ascribed, Explicit}
-use Rattle.formula.specs.declared.PredHead.{PredHead}
-use Rattle.formula.specs.declared.PredHead.the-variants.{Constant, Variable, Relational, Connective, Junction, Negation, Quantification, Simple, Multiple, Application}
-use Rattle.formula.specs.declared.DeclHead.{DeclHead}
-use Rattle.formula.specs.declared.DeclHead.the-variants.{Plain, Typed, Annotated}
-use Rattle.formula.specs.declared.ExprAt.{ExprAt}
-use Rattle.formula.specs.declared.ExprAt.the-variants as E
-use Rattle.formula.specs.declared.PredAt.{PredAt}
-use Rattle.formula.specs.declared.PredAt.the-variants as P
-use Rattle.formula.specs.declared.DeclAt.{DeclAt}
-use Rattle.formula.specs.declared.DeclAt.the-variants as D
+use Rattle.heads.specs.declared.ExprHead.{ExprHead}
+use Rattle.heads.specs.declared.ExprHead.the-variants.{Free, Bound, Literal, Atomic, Extension, Truth, Binary, Associative, Unary, Quantified, Ascribed, Explicit}
+use Rattle.heads.specs.declared.PredHead.{PredHead}
+use Rattle.heads.specs.declared.PredHead.the-variants.{Constant, Variable, Relational, Connective, Junction, Negation, Quantification, Simple, Multiple, Application}
+use Rattle.heads.specs.declared.DeclHead.{DeclHead}
+use Rattle.heads.specs.declared.DeclHead.the-variants.{Plain, Typed, Annotated}
+use Rattle.heads.specs.declared.ExprAt.{ExprAt}
+use Rattle.heads.specs.declared.ExprAt.the-variants as E
+use Rattle.heads.specs.declared.PredAt.{PredAt}
+use Rattle.heads.specs.declared.PredAt.the-variants as P
+use Rattle.heads.specs.declared.DeclAt.{DeclAt}
+use Rattle.heads.specs.declared.DeclAt.the-variants as D
 use Rattle.formula.specs.declared.St.{St}
 use Rattle.formula.specs.declared.Fault.{Fault}
 use Rattle.formula.specs.declared.Fault.the-variants.{Malformed, Beyond}
 use Rattle.formula.specs.declared.Out.{Out}
 use Rattle.formula.specs.declared.Out.the-variants.{Next, Stop}
 use Rattle.formula.specs.Tree.{Spelling, Decl, Expr, extension, truth, binary, associative, unary, quantified, ascribed, explicit, Exprs, none, more, Pred, relational, connective, junction, negation, quantification, simple, multiple, application, Preds, end, also, Target, Formula, expression, predicate, becomes, becomes-in, becomes-such}
-use Rattle.formula.specs.Heads.{pick, place, byteOf, byteAt, onByte, opAt, countAt, fewAt, exprHead, predHead, declHead, targetAt}
+use Rattle.heads.specs.Heads.{pick, place, byteAt, onByte, fewAt, exprHead, predHead, declHead, targetAt}
 use Rattle.formula.specs.Reader.{Got, ok, bad, andThen, forget, after, onNext, many, moved, ownOf, declareOf, closed, closing, closedOf, typeGot, typeIn, noType, spelledIn, spellingIn}
 use Rattle.formula.specs.Parse.{declBy, declIf, declAt, declsAt, exprBy, predBy, exprIf, predIf, exprDeep, predDeep, exprAt, predAt, exprsAt, predsAt, targetBy, targetIn, pairIn, targetsAt, pairsAt, becomesBy, becomesAt, rootBy, start, formulaAt, finish, whole, parsedBy, parseOf, formOf}
 use Rattle.types.specs.Limits.{max-bytes, max-depth, levels, max-slots, max-opened}
-
--- ---- bytes
-
-pub byte-in : (s : List ℕ) (p : Place) → p .0 < length s → B.Of (getD s (p .0) 0) (place (p .0 + 1)) ≡ byteAt s p
-unfolding byteAt byteOf
-byte-in s p h = rw (drop-cons s (p .0) 0 h)
-
-pub byte-out : (s : List ℕ) (p : Place) → length s ≤ p .0 → B.Missing ≡ byteAt s p
-unfolding byteAt byteOf
-byte-out s p h = rw (drop-of-length-le s h)
-
--- the code's limit is the definition's
-pub op-as : (limit m : ℕ) (s : List ℕ) (p : Place) (x : Byte) → opAt m s p ≡ x → m ≡ limit → opAt limit s p ≡ x
-op-as limit m s p x e h = ap (λ (n : ℕ). opAt n s p) (sym h) ∙ e
-
-pub count-as : (least m : ℕ) (s : List ℕ) (p : Place) (x : Word) → countAt m s p ≡ x → m ≡ least → countAt least s p ≡ x
-count-as least m s p x e h = ap (λ (n : ℕ). countAt n s p) (sym h) ∙ e
 
 -- ---- slots and open declarations
 
@@ -148,9 +131,6 @@ unfolding forget typeOut typeGot endOf
 type-out (got t e) st = refl
 type-out (malformed p) st = refl
 type-out (deep p) st = refl
-
-pub type-short : (names : ℕ) (s : List ℕ) (left p : ℕ) → length s ≤ max-bytes → endOf (typeAt left names (take 4294967295 s) p) ≡ endOf (typeAt left names s p)
-type-short names s left p h = ap (λ (l : List ℕ). endOf (typeAt left names l p)) (take-all 4294967295 s (omega arith))
 
 pub type-in : (names : ℕ) (s : List ℕ) (left : ℕ) (st : St) → after (Next st) (typeIn names s left) ≡ typeOut (endOf (typeAt left names s (st .at .0))) st
 unfolding after typeIn

@@ -9,13 +9,20 @@ ghost use lib.Dec.{leb};
 ghost use Rattle.types.specs.Record.{typeAt};
 ghost use Rattle.types.specs.Code.{endOf};
 ghost use Rattle.types.specs.Limits.{max-bytes, max-names};
-ghost use Rattle.formula.specs.Heads.{byteAt, wordAt, nameAt, opAt, countAt, fewAt, exprBody, exprHead, predBody, predHead, predEnd, declBody, declHead, targetAt};
+ghost use Rattle.heads.specs.Heads.{reach};
 ghost use Rattle.formula.specs.Reader.{ownOf, declareOf, closedOf, moved, typeIn, spellingIn, forget, after};
 ghost use Rattle.formula.specs.Parse.{declAt, declsAt, exprAt, exprsAt, predAt, predsAt, targetIn, targetsAt, pairIn, pairsAt, becomesAt, formulaAt, parseOf, formOf};
 ghost use Rattle.formula.specs.EnvParse.{entryAt, entriesFrom, capped, environmentOf};
 ghost use Rattle.formula.specs.EnvTold.{blank, answerOf};
 ghost use Rattle.formula.specs.EnvSteps.{enteredAt};
-use types::Name;
+use heads::Byte;
+use heads::DeclAt;
+use heads::DeclHead;
+use heads::ExprAt;
+use heads::ExprHead;
+use heads::PredAt;
+use heads::PredHead;
+use heads::Word;
 use types::Place;
 use types::TypeEnd;
 
@@ -30,73 +37,6 @@ const MAX_SLOTS: u32 = types::MAX_SLOTS;
 const MAX_OPENED: u32 = types::MAX_OPENED;
 
 const MAX_NAMES: u32 = types::MAX_NAMES;
-
-// ---- heads
-
-// A byte and the place after it.
-pub enum Byte {
-    Missing,
-    Of(u8, Place),
-}
-
-// A number of two bytes and the place after it.
-pub enum Word {
-    Missing,
-    Of(u16, Place),
-}
-
-// An expression's head, with the place after it.
-pub enum ExprHead {
-    Free(Name, Place),
-    Bound(u16, Place),
-    Literal(Place),
-    Atomic(u8, Place),
-    Extension(u16, Place),
-    Truth(Place),
-    Binary(u8, Place),
-    Associative(u8, u16, Place),
-    Unary(u8, Place),
-    Quantified(u8, u8, Place),
-    Ascribed(Place),
-    Explicit(Place),
-}
-
-// A predicate's head.
-pub enum PredHead {
-    Constant(Place),
-    Variable(Place),
-    Relational(u8, Place),
-    Connective(Place),
-    Junction(u16, Place),
-    Negation(Place),
-    Quantification(u8, Place),
-    Simple(Place),
-    Multiple(u16, Place),
-    Application(u16, Place),
-}
-
-// A declaration's head.
-pub enum DeclHead {
-    Plain(Place),
-    Typed(Place),
-    Annotated(Place),
-}
-
-// Whether a well-formed head of its class stands at a place; nothing is said of the records below it.
-pub enum ExprAt {
-    Wrong,
-    Is(ExprHead),
-}
-
-pub enum PredAt {
-    Wrong,
-    Is(PredHead),
-}
-
-pub enum DeclAt {
-    Wrong,
-    Is(DeclHead),
-}
 
 // Where the reader stands: the next byte, the slots so far, the declarations that are open.
 pub struct St {
@@ -115,271 +55,6 @@ pub enum Fault {
 pub enum Out {
     Next(St),
     Stop(Fault),
-}
-
-// ---- parts of a body
-
-fn wide(b: u8) -> u16
-    ensures { λ r. ⌜ r ≡ b ⌝ }
-{
-    b as u16
-}
-
-fn byte_at(s: &[u8], at: Place) -> Byte
-    requires { ⌜ length (now s) ≤ max-bytes ⌝ }
-    ensures { λ r. ⌜ r ≡ byteAt (now (s .entry)) at ⌝ }
-{
-    let p = at.0;
-    let i = p as usize;
-    if i < s.len() {
-        return Byte::Of(s[i], Place(p + 1));
-    }
-    Byte::Missing
-}
-
-fn word_at(s: &[u8], at: Place) -> Word
-    requires { ⌜ length (now s) ≤ max-bytes ⌝ }
-    ensures { λ r. ⌜ r ≡ wordAt (now (s .entry)) at ⌝ }
-{
-    match byte_at(s, at) {
-        Byte::Missing => Word::Missing,
-        Byte::Of(lo, p) => match byte_at(s, p) {
-            Byte::Missing => Word::Missing,
-            Byte::Of(hi, e) => Word::Of(wide(lo) + wide(hi) * 256, e),
-        },
-    }
-}
-
-// A name below the count.
-fn name_at(s: &[u8], names: u32, at: Place) -> Word
-    requires { ⌜ length (now s) ≤ max-bytes ⌝ }
-    ensures { λ r. ⌜ r ≡ nameAt names (now (s .entry)) at ⌝ }
-{
-    match word_at(s, at) {
-        Word::Missing => Word::Missing,
-        Word::Of(n, e) => {
-            if (n as u32) < names {
-                return Word::Of(n, e);
-            }
-            Word::Missing
-        }
-    }
-}
-
-// An operator below a limit.
-fn op_at(s: &[u8], limit: u8, at: Place) -> Byte
-    requires { ⌜ length (now s) ≤ max-bytes ⌝ }
-    ensures { λ r. ⌜ r ≡ opAt limit (now (s .entry)) at ⌝ }
-{
-    match byte_at(s, at) {
-        Byte::Missing => Byte::Missing,
-        Byte::Of(o, e) => {
-            if o < limit {
-                return Byte::Of(o, e);
-            }
-            Byte::Missing
-        }
-    }
-}
-
-// A count of two bytes, at least so many.
-fn count_at(s: &[u8], least: u16, at: Place) -> Word
-    requires { ⌜ length (now s) ≤ max-bytes ⌝ }
-    ensures { λ r. ⌜ r ≡ countAt least (now (s .entry)) at ⌝ }
-{
-    match word_at(s, at) {
-        Word::Missing => Word::Missing,
-        Word::Of(n, e) => {
-            if least <= n {
-                return Word::Of(n, e);
-            }
-            Word::Missing
-        }
-    }
-}
-
-// A count of one byte, at least 1.
-fn few_at(s: &[u8], at: Place) -> Byte
-    requires { ⌜ length (now s) ≤ max-bytes ⌝ }
-    ensures { λ r. ⌜ r ≡ fewAt (now (s .entry)) at ⌝ }
-{
-    match byte_at(s, at) {
-        Byte::Missing => Byte::Missing,
-        Byte::Of(n, e) => {
-            if 1 <= n {
-                return Byte::Of(n, e);
-            }
-            Byte::Missing
-        }
-    }
-}
-
-// ---- heads
-
-// An expression of kind k whose body stands at p; bare: where no 0C may stand.
-fn expr_body(s: &[u8], names: u32, bare: bool, k: u8, p: Place) -> ExprAt
-    requires { ⌜ length (now s) ≤ max-bytes ⌝ }
-    ensures { λ r. ⌜ r ≡ exprBody names (now (s .entry)) bare k p ⌝ }
-{
-    match k {
-        0x01 => match name_at(s, names, p) {
-            Word::Missing => ExprAt::Wrong,
-            Word::Of(n, e) => ExprAt::Is(ExprHead::Free(Name(n as u32), e)),
-        },
-        0x02 => match word_at(s, p) {
-            Word::Missing => ExprAt::Wrong,
-            Word::Of(i, e) => ExprAt::Is(ExprHead::Bound(i, e)),
-        },
-        0x03 => ExprAt::Is(ExprHead::Literal(p)),
-        0x04 => match op_at(s, 12, p) {
-            Byte::Missing => ExprAt::Wrong,
-            Byte::Of(o, e) => ExprAt::Is(ExprHead::Atomic(o, e)),
-        },
-        0x05 => match count_at(s, 1, p) {
-            Word::Missing => ExprAt::Wrong,
-            Word::Of(n, e) => ExprAt::Is(ExprHead::Extension(n, e)),
-        },
-        0x06 => ExprAt::Is(ExprHead::Truth(p)),
-        0x07 => match op_at(s, 27, p) {
-            Byte::Missing => ExprAt::Wrong,
-            Byte::Of(o, e) => ExprAt::Is(ExprHead::Binary(o, e)),
-        },
-        0x08 => match op_at(s, 7, p) {
-            Byte::Missing => ExprAt::Wrong,
-            Byte::Of(o, q) => match count_at(s, 2, q) {
-                Word::Missing => ExprAt::Wrong,
-                Word::Of(n, e) => ExprAt::Is(ExprHead::Associative(o, n, e)),
-            },
-        },
-        0x09 => match op_at(s, 11, p) {
-            Byte::Missing => ExprAt::Wrong,
-            Byte::Of(o, e) => ExprAt::Is(ExprHead::Unary(o, e)),
-        },
-        0x0A => match op_at(s, 3, p) {
-            Byte::Missing => ExprAt::Wrong,
-            Byte::Of(o, q) => match few_at(s, q) {
-                Byte::Missing => ExprAt::Wrong,
-                Byte::Of(n, e) => ExprAt::Is(ExprHead::Quantified(o, n, e)),
-            },
-        },
-        0x0B => ExprAt::Is(ExprHead::Ascribed(p)),
-        0x0C => {
-            if bare {
-                return ExprAt::Wrong;
-            }
-            ExprAt::Is(ExprHead::Explicit(p))
-        }
-        _ => ExprAt::Wrong,
-    }
-}
-
-fn expr_head(s: &[u8], names: u32, bare: bool, at: Place) -> ExprAt
-    requires { ⌜ length (now s) ≤ max-bytes ⌝ }
-    ensures { λ r. ⌜ r ≡ exprHead names (now (s .entry)) bare at ⌝ }
-{
-    match byte_at(s, at) {
-        Byte::Missing => ExprAt::Wrong,
-        Byte::Of(k, p) => expr_body(s, names, bare, k, p),
-    }
-}
-
-fn pred_body(s: &[u8], k: u8, p: Place) -> PredAt
-    requires { ⌜ length (now s) ≤ max-bytes ⌝ }
-    ensures { λ r. ⌜ r ≡ predBody (now (s .entry)) k p ⌝ }
-{
-    match k {
-        0x20 => PredAt::Is(PredHead::Constant(p)),
-        0x21 => PredAt::Is(PredHead::Variable(p)),
-        0x22 => match op_at(s, 12, p) {
-            Byte::Missing => PredAt::Wrong,
-            Byte::Of(o, e) => PredAt::Is(PredHead::Relational(o, e)),
-        },
-        0x23 => PredAt::Is(PredHead::Connective(p)),
-        0x24 => match count_at(s, 2, p) {
-            Word::Missing => PredAt::Wrong,
-            Word::Of(n, e) => PredAt::Is(PredHead::Junction(n, e)),
-        },
-        0x25 => PredAt::Is(PredHead::Negation(p)),
-        0x26 => match few_at(s, p) {
-            Byte::Missing => PredAt::Wrong,
-            Byte::Of(n, e) => PredAt::Is(PredHead::Quantification(n, e)),
-        },
-        0x27 => PredAt::Is(PredHead::Simple(p)),
-        0x28 => match count_at(s, 1, p) {
-            Word::Missing => PredAt::Wrong,
-            Word::Of(n, e) => PredAt::Is(PredHead::Multiple(n, e)),
-        },
-        0x29 => match word_at(s, p) {
-            Word::Missing => PredAt::Wrong,
-            Word::Of(n, e) => PredAt::Is(PredHead::Application(n, e)),
-        },
-        _ => PredAt::Wrong,
-    }
-}
-
-fn pred_head(s: &[u8], at: Place) -> PredAt
-    requires { ⌜ length (now s) ≤ max-bytes ⌝ }
-    ensures { λ r. ⌜ r ≡ predHead (now (s .entry)) at ⌝ }
-{
-    match byte_at(s, at) {
-        Byte::Missing => PredAt::Wrong,
-        Byte::Of(k, p) => pred_body(s, k, p),
-    }
-}
-
-// The place after a predicate's head.
-fn pred_end(h: PredHead) -> Place
-    ensures { λ r. ⌜ r ≡ predEnd h ⌝ }
-{
-    match h {
-        PredHead::Constant(e) => e,
-        PredHead::Variable(e) => e,
-        PredHead::Relational(_, e) => e,
-        PredHead::Connective(e) => e,
-        PredHead::Junction(_, e) => e,
-        PredHead::Negation(e) => e,
-        PredHead::Quantification(_, e) => e,
-        PredHead::Simple(e) => e,
-        PredHead::Multiple(_, e) => e,
-        PredHead::Application(_, e) => e,
-    }
-}
-
-fn decl_body(k: u8, p: Place) -> DeclAt
-    ensures { λ r. ⌜ r ≡ declBody k p ⌝ }
-{
-    match k {
-        0x10 => DeclAt::Is(DeclHead::Plain(p)),
-        0x11 => DeclAt::Is(DeclHead::Typed(p)),
-        0x12 => DeclAt::Is(DeclHead::Annotated(p)),
-        _ => DeclAt::Wrong,
-    }
-}
-
-fn decl_head(s: &[u8], at: Place) -> DeclAt
-    requires { ⌜ length (now s) ≤ max-bytes ⌝ }
-    ensures { λ r. ⌜ r ≡ declHead (now (s .entry)) at ⌝ }
-{
-    match byte_at(s, at) {
-        Byte::Missing => DeclAt::Wrong,
-        Byte::Of(k, p) => decl_body(k, p),
-    }
-}
-
-// A target: a record 01 and nothing else.
-fn target_at(s: &[u8], names: u32, at: Place) -> Word
-    requires { ⌜ length (now s) ≤ max-bytes ⌝ }
-    ensures { λ r. ⌜ r ≡ targetAt names (now (s .entry)) at ⌝ }
-{
-    match byte_at(s, at) {
-        Byte::Missing => Word::Missing,
-        Byte::Of(k, p) => {
-            if k == 0x01 {
-                return name_at(s, names, p);
-            }
-            Word::Missing
-        }
-    }
 }
 
 // ---- the reader's state
@@ -449,15 +124,13 @@ fn close(opened: u32, o: Out) -> Out
 
 // One type record.
 fn type_at(s: &[u8], names: u32, left: u32, at: Place) -> TypeEnd
-    requires { ⌜ length (now s) ≤ max-bytes ⌝ }
-    ensures { λ r. ⌜ r ≡ endOf (typeAt left names (now (s .entry)) (at .0)) ⌝ }
+    ensures { λ r. ⌜ r ≡ endOf (typeAt left names (reach (now (s .entry))) (at .0)) ⌝ }
 {
     types::type_end(s, names, at, left)
 }
 
 fn read_type(s: &[u8], names: u32, left: u32, o: Out) -> Out
-    requires { ⌜ length (now s) ≤ max-bytes ⌝ }
-    ensures { λ r. ⌜ r ≡ after o (typeIn names (now (s .entry)) left) ⌝ }
+    ensures { λ r. ⌜ r ≡ after o (typeIn names (reach (now (s .entry))) left) ⌝ }
 {
     match o {
         Out::Stop(f) => Out::Stop(f),
@@ -474,14 +147,13 @@ fn read_type(s: &[u8], names: u32, left: u32, o: Out) -> Out
 
 // A type, or 4F.
 fn read_spelling(s: &[u8], names: u32, left: u32, o: Out) -> Out
-    requires { ⌜ length (now s) ≤ max-bytes ⌝ }
-    ensures { λ r. ⌜ r ≡ after o (spellingIn names (now (s .entry)) left) ⌝ }
+    ensures { λ r. ⌜ r ≡ after o (spellingIn names (reach (now (s .entry))) left) ⌝ }
 {
     match o {
         Out::Stop(f) => Out::Stop(f),
         Out::Next(st) => {
             let at = st.at;
-            match byte_at(s, at) {
+            match heads::byte_at(s, at) {
                 Byte::Missing => read_type(s, names, left, Out::Next(st)),
                 Byte::Of(k, e) => {
                     if k == 0x4F {
@@ -498,14 +170,13 @@ fn read_spelling(s: &[u8], names: u32, left: u32, o: Out) -> Out
 }
 
 fn read_decl(s: &[u8], names: u32, left: u32, o: Out) -> Out
-    requires { ⌜ length (now s) ≤ max-bytes ⌝ }
-    ensures { λ r. ⌜ r ≡ after o (declAt names (now (s .entry)) left) ⌝ }
+    ensures { λ r. ⌜ r ≡ after o (declAt names (reach (now (s .entry))) left) ⌝ }
 {
     match o {
         Out::Stop(f) => Out::Stop(f),
         Out::Next(st) => {
             let at = st.at;
-            match decl_head(s, at) {
+            match heads::decl_head(s, at) {
                 DeclAt::Wrong => Out::Stop(Fault::Malformed(at)),
                 DeclAt::Is(h) => {
                     if left == 0 {
@@ -523,8 +194,7 @@ fn read_decl(s: &[u8], names: u32, left: u32, o: Out) -> Out
 }
 
 fn read_decls(s: &[u8], names: u32, left: u32, n: u8, o: Out) -> Out
-    requires { ⌜ length (now s) ≤ max-bytes ⌝ }
-    ensures { λ r. ⌜ r ≡ after o (declsAt names (now (s .entry)) left n) ⌝ }
+    ensures { λ r. ⌜ r ≡ after o (declsAt names (reach (now (s .entry))) left n) ⌝ }
 {
     let mut cur = o;
     let mut i = n;
@@ -539,14 +209,13 @@ fn read_decls(s: &[u8], names: u32, left: u32, n: u8, o: Out) -> Out
 
 // bare: where no 0C may stand.
 fn read_expr(s: &[u8], names: u32, bare: bool, left: u32, o: Out) -> Out
-    requires { ⌜ length (now s) ≤ max-bytes ⌝ }
-    ensures { λ r. ⌜ r ≡ after o (exprAt left names (now (s .entry)) bare) ⌝ }
+    ensures { λ r. ⌜ r ≡ after o (exprAt left names (reach (now (s .entry))) bare) ⌝ }
 {
     match o {
         Out::Stop(f) => Out::Stop(f),
         Out::Next(st) => {
             let at = st.at;
-            match expr_head(s, names, bare, at) {
+            match heads::expr_head(s, names, bare, at) {
                 ExprAt::Wrong => Out::Stop(Fault::Malformed(at)),
                 ExprAt::Is(h) => {
                     if left == 0 {
@@ -587,8 +256,7 @@ fn read_expr(s: &[u8], names: u32, bare: bool, left: u32, o: Out) -> Out
 }
 
 fn read_exprs(s: &[u8], names: u32, left: u32, n: u16, o: Out) -> Out
-    requires { ⌜ length (now s) ≤ max-bytes ⌝ }
-    ensures { λ r. ⌜ r ≡ after o (exprsAt left names (now (s .entry)) n) ⌝ }
+    ensures { λ r. ⌜ r ≡ after o (exprsAt left names (reach (now (s .entry))) n) ⌝ }
 {
     let mut cur = o;
     let mut i = n;
@@ -607,21 +275,20 @@ fn read_exprs(s: &[u8], names: u32, left: u32, n: u16, o: Out) -> Out
 }
 
 fn read_pred(s: &[u8], names: u32, left: u32, o: Out) -> Out
-    requires { ⌜ length (now s) ≤ max-bytes ⌝ }
-    ensures { λ r. ⌜ r ≡ after o (predAt left names (now (s .entry))) ⌝ }
+    ensures { λ r. ⌜ r ≡ after o (predAt left names (reach (now (s .entry)))) ⌝ }
 {
     match o {
         Out::Stop(f) => Out::Stop(f),
         Out::Next(st) => {
             let at = st.at;
-            match pred_head(s, at) {
+            match heads::pred_head(s, at) {
                 PredAt::Wrong => Out::Stop(Fault::Malformed(at)),
                 PredAt::Is(h) => {
                     if left == 0 {
                         return Out::Stop(Fault::Beyond(at));
                     }
                     let l = left - 1;
-                    let begin = Out::Next(moved_to(pred_end(h), st));
+                    let begin = Out::Next(moved_to(heads::pred_end(h), st));
                     match h {
                         PredHead::Constant(_) => begin,
                         PredHead::Variable(_) => begin,
@@ -650,8 +317,7 @@ fn read_pred(s: &[u8], names: u32, left: u32, o: Out) -> Out
 }
 
 fn read_preds(s: &[u8], names: u32, left: u32, n: u16, o: Out) -> Out
-    requires { ⌜ length (now s) ≤ max-bytes ⌝ }
-    ensures { λ r. ⌜ r ≡ after o (predsAt left names (now (s .entry)) n) ⌝ }
+    ensures { λ r. ⌜ r ≡ after o (predsAt left names (reach (now (s .entry))) n) ⌝ }
 {
     let mut cur = o;
     let mut i = n;
@@ -672,14 +338,13 @@ fn read_preds(s: &[u8], names: u32, left: u32, n: u16, o: Out) -> Out
 // ---- formulas
 
 fn read_target(s: &[u8], names: u32, o: Out) -> Out
-    requires { ⌜ length (now s) ≤ max-bytes ⌝ }
-    ensures { λ r. ⌜ r ≡ after o (targetIn names (now (s .entry))) ⌝ }
+    ensures { λ r. ⌜ r ≡ after o (targetIn names (reach (now (s .entry)))) ⌝ }
 {
     match o {
         Out::Stop(f) => Out::Stop(f),
         Out::Next(st) => {
             let at = st.at;
-            match target_at(s, names, at) {
+            match heads::target_at(s, names, at) {
                 Word::Missing => Out::Stop(Fault::Malformed(at)),
                 Word::Of(_, e) => own(e, st),
             }
@@ -688,8 +353,7 @@ fn read_target(s: &[u8], names: u32, o: Out) -> Out
 }
 
 fn read_targets(s: &[u8], names: u32, n: u8, o: Out) -> Out
-    requires { ⌜ length (now s) ≤ max-bytes ⌝ }
-    ensures { λ r. ⌜ r ≡ after o (targetsAt names (now (s .entry)) n) ⌝ }
+    ensures { λ r. ⌜ r ≡ after o (targetsAt names (reach (now (s .entry))) n) ⌝ }
 {
     let mut cur = o;
     let mut i = n;
@@ -702,16 +366,14 @@ fn read_targets(s: &[u8], names: u32, n: u8, o: Out) -> Out
 
 // A target and its value.
 fn read_pair(s: &[u8], names: u32, left: u32, o: Out) -> Out
-    requires { ⌜ length (now s) ≤ max-bytes ⌝ }
-    ensures { λ r. ⌜ r ≡ after o (pairIn left names (now (s .entry))) ⌝ }
+    ensures { λ r. ⌜ r ≡ after o (pairIn left names (reach (now (s .entry)))) ⌝ }
 {
     let t = read_target(s, names, o);
     read_expr(s, names, false, left, t)
 }
 
 fn read_pairs(s: &[u8], names: u32, left: u32, n: u8, o: Out) -> Out
-    requires { ⌜ length (now s) ≤ max-bytes ⌝ }
-    ensures { λ r. ⌜ r ≡ after o (pairsAt left names (now (s .entry)) n) ⌝ }
+    ensures { λ r. ⌜ r ≡ after o (pairsAt left names (reach (now (s .entry))) n) ⌝ }
 {
     let mut cur = o;
     let mut i = n;
@@ -724,11 +386,10 @@ fn read_pairs(s: &[u8], names: u32, left: u32, n: u8, o: Out) -> Out
 
 // An assignment of kind k, whose count stands at p.
 fn read_becomes(s: &[u8], names: u32, k: u8, p: Place, st: St) -> Out
-    requires { ⌜ length (now s) ≤ max-bytes ⌝ }
-    ensures { λ r. ⌜ r ≡ forget (becomesAt names (now (s .entry)) st k p) ⌝ }
+    ensures { λ r. ⌜ r ≡ forget (becomesAt names (reach (now (s .entry))) st k p) ⌝ }
 {
     let at = st.at;
-    match few_at(s, p) {
+    match heads::few_at(s, p) {
         Byte::Missing => Out::Stop(Fault::Malformed(at)),
         Byte::Of(n, e) => {
             let begin = Out::Next(moved_to(e, st));
@@ -751,11 +412,10 @@ fn read_becomes(s: &[u8], names: u32, k: u8, p: Place, st: St) -> Out
 
 // The record at the start, with all that stands below it.
 fn read_formula(s: &[u8], names: u32, st: St) -> Out
-    requires { ⌜ length (now s) ≤ max-bytes ⌝ }
-    ensures { λ r. ⌜ r ≡ forget (formulaAt names (now (s .entry)) st) ⌝ }
+    ensures { λ r. ⌜ r ≡ forget (formulaAt names (reach (now (s .entry))) st) ⌝ }
 {
     let at = st.at;
-    match byte_at(s, at) {
+    match heads::byte_at(s, at) {
         Byte::Missing => Out::Stop(Fault::Malformed(at)),
         Byte::Of(k, p) => {
             if k < 0x20 {
@@ -814,14 +474,13 @@ pub struct Environment {
 
 // An entry's head: 50 and a name below the count.
 fn entry_at(s: &[u8], names: u32, at: Place) -> Word
-    requires { ⌜ length (now s) ≤ max-bytes ⌝ }
-    ensures { λ r. ⌜ r ≡ entryAt names (now (s .entry)) at ⌝ }
+    ensures { λ r. ⌜ r ≡ entryAt names (reach (now (s .entry))) at ⌝ }
 {
-    match byte_at(s, at) {
+    match heads::byte_at(s, at) {
         Byte::Missing => Word::Missing,
         Byte::Of(k, p) => {
             if k == 0x50 {
-                return name_at(s, names, p);
+                return heads::name_at(s, names, p);
             }
             Word::Missing
         }
@@ -851,9 +510,8 @@ pub enum Entered {
 
 // The entry at a place. types: the table of the entries before it.
 fn read_entry(s: &[u8], names: u32, types: &[u32; 256], at: Place) -> Entered
-    requires { ⌜ length (now s) ≤ max-bytes ⌝ }
     requires { ⌜ names ≤ max-names ⌝ }
-    ensures { λ r. ⌜ r ≡ enteredAt names (now (s .entry)) (now (types .entry)) at ⌝ }
+    ensures { λ r. ⌜ r ≡ enteredAt names (reach (now (s .entry))) (now (types .entry)) at ⌝ }
 {
     match entry_at(s, names, at) {
         Word::Missing => Entered::Wrong(Fault::Malformed(at)),

@@ -12,23 +12,23 @@ use lib.Dec.{ltb, eqb}
 use Rattle.types.specs.declared.Place.{Place}
 use Rattle.types.specs.Record.{Head, atomic, power, product, wrong, headOf}
 use Rattle.types.specs.Limits.{max-depth, max-slots, max-opened}
-use Rattle.formula.specs.declared.Byte.the-variants as B
-use Rattle.formula.specs.declared.Word.{Word}
-use Rattle.formula.specs.declared.Word.the-variants as W
-use Rattle.formula.specs.declared.ExprHead.{ExprHead}
-use Rattle.formula.specs.declared.ExprHead.the-variants.{Free, Bound, Literal, Atomic, Extension, Truth, Binary, Associative, Unary, Quantified, Ascribed, Explicit}
-use Rattle.formula.specs.declared.PredHead.{PredHead}
-use Rattle.formula.specs.declared.PredHead.the-variants.{Constant, Variable, Relational, Connective, Junction, Negation, Quantification, Simple, Multiple, Application}
-use Rattle.formula.specs.declared.DeclHead.{DeclHead}
-use Rattle.formula.specs.declared.DeclHead.the-variants.{Plain, Typed, Annotated}
-use Rattle.formula.specs.declared.ExprAt.{ExprAt}
-use Rattle.formula.specs.declared.ExprAt.the-variants as E
-use Rattle.formula.specs.declared.PredAt.{PredAt}
-use Rattle.formula.specs.declared.PredAt.the-variants as P
-use Rattle.formula.specs.declared.DeclAt.{DeclAt}
-use Rattle.formula.specs.declared.DeclAt.the-variants as D
+use Rattle.heads.specs.declared.Byte.the-variants as B
+use Rattle.heads.specs.declared.Word.{Word}
+use Rattle.heads.specs.declared.Word.the-variants as W
+use Rattle.heads.specs.declared.ExprHead.{ExprHead}
+use Rattle.heads.specs.declared.ExprHead.the-variants.{Free, Bound, Literal, Atomic, Extension, Truth, Binary, Associative, Unary, Quantified, Ascribed, Explicit}
+use Rattle.heads.specs.declared.PredHead.{PredHead}
+use Rattle.heads.specs.declared.PredHead.the-variants.{Constant, Variable, Relational, Connective, Junction, Negation, Quantification, Simple, Multiple, Application}
+use Rattle.heads.specs.declared.DeclHead.{DeclHead}
+use Rattle.heads.specs.declared.DeclHead.the-variants.{Plain, Typed, Annotated}
+use Rattle.heads.specs.declared.ExprAt.{ExprAt}
+use Rattle.heads.specs.declared.ExprAt.the-variants as E
+use Rattle.heads.specs.declared.PredAt.{PredAt}
+use Rattle.heads.specs.declared.PredAt.the-variants as P
+use Rattle.heads.specs.declared.DeclAt.{DeclAt}
+use Rattle.heads.specs.declared.DeclAt.the-variants as D
 use Rattle.formula.specs.declared.St.{St}
-use Rattle.formula.specs.Heads.{pick, place, byteAt, onByte, fewAt, exprHead, predHead, declHead, targetAt}
+use Rattle.heads.specs.Heads.{pick, place, byteAt, onByte, fewAt, exprHead, predHead, declHead, targetAt}
 use Rattle.formula.specs.Reader.{moved, closed}
 
 -- what is due, with the depth of its record; bare: an expression other than 0C

@@ -14,13 +14,13 @@ use Rattle.types.specs.Ty.{Ty}
 use Rattle.types.specs.Record.{TypeAt, got, malformed, deep, typeAt}
 use Rattle.types.specs.Spellings.{read-stands, bytes-at}
 use Rattle.types.specs.Faults.{Leads, malformed-means, deep-means}
-use Rattle.formula.specs.declared.Word.{Word}
-use Rattle.formula.specs.declared.Word.the-variants as W
+use Rattle.heads.specs.declared.Word.{Word}
+use Rattle.heads.specs.declared.Word.the-variants as W
 use Rattle.formula.specs.declared.St.{St}
 use Rattle.formula.specs.declared.Fault.{Fault}
 use Rattle.formula.specs.declared.Fault.the-variants.{Malformed, Beyond}
 use Rattle.formula.specs.Environment.{Entry, lacks, holds, Entries, lookup, Distinct, spellEntry, spellEntries}
-use Rattle.formula.specs.Heads.{pick, place}
+use Rattle.heads.specs.Heads.{pick, place}
 use Rattle.formula.specs.Parse.{Parsed, parsed, too-long, faulty}
 use Rattle.formula.specs.EnvParse.{entryAt, typedBy, freshBy, entryBy, entriesFrom, capped, environmentOf}
 use Rattle.types.specs.Limits.{max-bytes, max-depth}

@@ -17,12 +17,12 @@ use Rattle.types.specs.Record.{wrong, headOf, TypeAt, got, malformed, deep, typ
 use Rattle.types.specs.Spellings.{read-stands, bytes-at}
 use Rattle.types.specs.Faults.{level, Leads, malformed-means, deep-means, means-malformed, means-deep}
 use Rattle.types.specs.Limits.{max-bytes, max-depth}
-use Rattle.formula.specs.declared.Word.{Word}
-use Rattle.formula.specs.declared.Word.the-variants as W
+use Rattle.heads.specs.declared.Word.{Word}
+use Rattle.heads.specs.declared.Word.the-variants as W
 use Rattle.formula.specs.declared.Fault.{Fault}
 use Rattle.formula.specs.declared.Fault.the-variants.{Malformed, Beyond}
 use Rattle.formula.specs.Environment.{Entry, lacks, holds, Entries, lookup}
-use Rattle.formula.specs.Heads.{pick, place}
+use Rattle.heads.specs.Heads.{pick, place}
 use Rattle.formula.specs.Parse.{Parsed, parsed, too-long, faulty}
 use Rattle.formula.specs.EnvParse.{entryAt, typedBy, freshBy, entryBy, entriesFrom, capped, environmentOf}
 use Rattle.formula_laws.specs.ExactEnvironment.{EntrySays, entry-says}

@@ -11,12 +11,12 @@ use lib.Dec.{ltb, eqb}
 use borrow.Author.Tests.{lt-ltb, le-ltb}
 use Rattle.types.specs.declared.Place.{Place}
 use Rattle.types.specs.Record.{TypeAt, got, malformed, deep, typeAt}
-use Rattle.formula.specs.declared.Word.{Word}
-use Rattle.formula.specs.declared.Word.the-variants as W
+use Rattle.heads.specs.declared.Word.{Word}
+use Rattle.heads.specs.declared.Word.the-variants as W
 use Rattle.formula.specs.declared.Fault.{Fault}
 use Rattle.formula.specs.declared.Fault.the-variants.{Malformed}
 use Rattle.formula.specs.Environment.{Entry, lacks, holds, Entries, lookup}
-use Rattle.formula.specs.Heads.{pick, place}
+use Rattle.heads.specs.Heads.{pick, place}
 use Rattle.formula.specs.Parse.{Parsed, parsed, too-long, faulty}
 use Rattle.formula.specs.EnvParse.{entryAt, typedBy, freshBy, entryBy, entriesFrom, capped, environmentOf}
 use Rattle.types.specs.Limits.{max-bytes, max-depth}

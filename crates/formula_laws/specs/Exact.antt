@@ -13,7 +13,7 @@ use Rattle.formula.specs.declared.Form.{Form}
 use Rattle.formula.specs.declared.Form.the-variants.{Good, TooLong, Bad}
 use Rattle.formula.specs.Tree.{Formula, slots-of}
 use Rattle.formula.specs.Spell.{spell-formula, size-formula, Placed-formula}
-use Rattle.formula.specs.Heads.{pick, place}
+use Rattle.heads.specs.Heads.{pick, place}
 use Rattle.formula.specs.Reader.{Got, ok, bad, andThen}
 use Rattle.formula.specs.Parse.{formulaAt, start, finish, whole, Parsed, parsed, too-long, faulty, parsedBy, parseOf, formOf}
 use Rattle.types.specs.Limits.{max-bytes, max-slots}

@@ -12,16 +12,16 @@ use Rattle.types.specs.Ty as T
 use Rattle.types.specs.Ty.{Ty}
 use Rattle.types.specs.Record.{TypeAt, got, malformed, deep, typeAt}
 use Rattle.types.specs.Spellings.{past, spelled-is-read, read-stands, bytes-at}
-use Rattle.formula.specs.declared.Byte.{Byte}
-use Rattle.formula.specs.declared.Byte.the-variants as B
-use Rattle.formula.specs.declared.Word.{Word}
-use Rattle.formula.specs.declared.Word.the-variants as W
+use Rattle.heads.specs.declared.Byte.{Byte}
+use Rattle.heads.specs.declared.Byte.the-variants as B
+use Rattle.heads.specs.declared.Word.{Word}
+use Rattle.heads.specs.declared.Word.the-variants as W
 use Rattle.formula.specs.declared.Form.{Form}
 use Rattle.formula.specs.declared.Form.the-variants.{Good, TooLong, Bad}
 use Rattle.formula.specs.declared.Fault.{Fault}
 use Rattle.formula.specs.declared.Fault.the-variants.{Malformed, Beyond}
 use Rattle.formula.specs.Environment.{Entry, lacks, holds, Entries, first, lookup, Distinct, spellEntry, spellEntries}
-use Rattle.formula.specs.Heads.{pick, place, byteAt, onByte, onWord, nameAt}
+use Rattle.heads.specs.Heads.{pick, place, byteAt, onByte, onWord, nameAt}
 use Rattle.formula.specs.Parse.{Parsed, parsed, too-long, faulty, formOf}
 use Rattle.formula.specs.EnvParse.{entryAt, typedBy, freshBy, entryBy, entriesFrom, capped, environmentOf}
 use Rattle.formula.specs.EnvSteps.{lookup-other}

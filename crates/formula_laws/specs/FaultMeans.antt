@@ -16,28 +16,28 @@ use Rattle.types.specs.Ty.{Ty, base, pow, prod}
 use Rattle.types.specs.Record as R
 use Rattle.types.specs.Record.{Head, atomic, power, product, wrong, headOf, TypeAt, got, malformed, deep, deepBy, typeBy, typeAt}
 use Rattle.types.specs.Limits.{max-bytes, max-depth, max-slots, max-opened, levels}
-use Rattle.formula.specs.declared.Byte.{Byte}
-use Rattle.formula.specs.declared.Byte.the-variants as B
-use Rattle.formula.specs.declared.Word.{Word}
-use Rattle.formula.specs.declared.Word.the-variants as W
-use Rattle.formula.specs.declared.ExprHead.{ExprHead}
-use Rattle.formula.specs.declared.ExprHead.the-variants.{Free, Bound, Literal, Atomic, Extension, Truth, Binary, Associative, Unary, Quantified, Ascribed, Explicit}
-use Rattle.formula.specs.declared.PredHead.{PredHead}
-use Rattle.formula.specs.declared.PredHead.the-variants.{Constant, Variable, Relational, Connective, Junction, Negation, Quantification, Simple, Multiple, Application}
-use Rattle.formula.specs.declared.DeclHead.{DeclHead}
-use Rattle.formula.specs.declared.DeclHead.the-variants.{Plain, Typed, Annotated}
-use Rattle.formula.specs.declared.ExprAt.{ExprAt}
-use Rattle.formula.specs.declared.ExprAt.the-variants as E
-use Rattle.formula.specs.declared.PredAt.{PredAt}
-use Rattle.formula.specs.declared.PredAt.the-variants as P
-use Rattle.formula.specs.declared.DeclAt.{DeclAt}
-use Rattle.formula.specs.declared.DeclAt.the-variants as D
+use Rattle.heads.specs.declared.Byte.{Byte}
+use Rattle.heads.specs.declared.Byte.the-variants as B
+use Rattle.heads.specs.declared.Word.{Word}
+use Rattle.heads.specs.declared.Word.the-variants as W
+use Rattle.heads.specs.declared.ExprHead.{ExprHead}
+use Rattle.heads.specs.declared.ExprHead.the-variants.{Free, Bound, Literal, Atomic, Extension, Truth, Binary, Associative, Unary, Quantified, Ascribed, Explicit}
+use Rattle.heads.specs.declared.PredHead.{PredHead}
+use Rattle.heads.specs.declared.PredHead.the-variants.{Constant, Variable, Relational, Connective, Junction, Negation, Quantification, Simple, Multiple, Application}
+use Rattle.heads.specs.declared.DeclHead.{DeclHead}
+use Rattle.heads.specs.declared.DeclHead.the-variants.{Plain, Typed, Annotated}
+use Rattle.heads.specs.declared.ExprAt.{ExprAt}
+use Rattle.heads.specs.declared.ExprAt.the-variants as E
+use Rattle.heads.specs.declared.PredAt.{PredAt}
+use Rattle.heads.specs.declared.PredAt.the-variants as P
+use Rattle.heads.specs.declared.DeclAt.{DeclAt}
+use Rattle.heads.specs.declared.DeclAt.the-variants as D
 use Rattle.formula.specs.declared.St.{St}
 use Rattle.formula.specs.declared.Fault.{Fault}
 use Rattle.formula.specs.declared.Fault.the-variants.{Malformed, Beyond}
 use Rattle.formula.specs.declared.Out.the-variants.{Next, Stop}
 use Rattle.formula.specs.Tree.{Spelling, spells, no-type, Decl, Expr, none, more, Pred, end, also, Target, Formula, expression, predicate, becomes, becomes-in, becomes-such}
-use Rattle.formula.specs.Heads.{pick, place, byteAt, onByte, fewAt, exprHead, predHead, declHead, targetAt}
+use Rattle.heads.specs.Heads.{pick, place, byteAt, onByte, fewAt, exprHead, predHead, declHead, targetAt}
 use Rattle.formula.specs.Reader.{Got, ok, bad, andThen, onNext, many, moved, ownOf, declareOf, closed, closing, typeGot, typeIn, noType, spelledIn, spellingIn}
 use Rattle.formula.specs.Parse.{declBy, declIf, declAt, declsAt, exprBy, predBy, exprIf, predIf, exprDeep, predDeep, exprAt, predAt, targetBy, targetIn, pairIn, targetsAt, pairsAt, becomesBy, becomesAt, rootBy, start, formulaAt, finish, whole, too-long, faulty, parsedBy, parseOf}
 use Rattle.formula_laws.specs.Due.{Due, formula-due, target-due, expr-due, pred-due, decl-due, type-due, spelling-due, close-due, end-due, depth-due, Limited, Opening, opens, absent, owned, declared, times, expr-opens, pred-opens, decl-opens, type-opens, target-opens, becomes-opens, root-opens, spelling-opens, typeHead, openOf, Within, Stands, Assigns, Lacks, Goes, stay, onward, Passed, too-deep, too-many, too-open}

@@ -16,7 +16,7 @@ use Rattle.formula.specs.declared.Fault.{Fault}
 use Rattle.formula.specs.declared.Fault.the-variants.{Malformed, Beyond}
 use Rattle.formula.specs.Tree.{Target, Expr, Formula, expression, predicate, becomes, becomes-in, becomes-such, decls, targets}
 use Rattle.formula.specs.Spell.{spell-formula}
-use Rattle.formula.specs.Heads.{pick}
+use Rattle.heads.specs.Heads.{pick}
 use Rattle.formula.specs.Reader.{Got, ok, bad, andThen}
 use Rattle.formula.specs.Parse.{formulaAt, start, finish, whole, Parsed, parsed, too-long, faulty, parsedBy, parseOf}
 use Rattle.types.specs.Limits.{max-bytes}

@@ -10,23 +10,23 @@ use lib.Dec.{leb, ltb, eqb}
 use borrow.Author.Tests.{ltb-true, leb-true, eqb-true}
 use Rattle.types.specs.declared.Name.{Name}
 use Rattle.types.specs.declared.Place.{Place}
-use Rattle.formula.specs.declared.Byte.{Byte}
-use Rattle.formula.specs.declared.Byte.the-variants as B
-use Rattle.formula.specs.declared.Word.{Word}
-use Rattle.formula.specs.declared.Word.the-variants as W
-use Rattle.formula.specs.declared.ExprHead.{ExprHead}
-use Rattle.formula.specs.declared.ExprHead.the-variants.{Free, Bound, Literal, Atomic, Extension, Truth, Binary, Associative, Unary, Quantified, Ascribed, Explicit}
-use Rattle.formula.specs.declared.PredHead.{PredHead}
-use Rattle.formula.specs.declared.PredHead.the-variants.{Constant, Variable, Relational, Connective, Junction, Negation, Quantification, Simple, Multiple, Application}
-use Rattle.formula.specs.declared.DeclHead.{DeclHead}
-use Rattle.formula.specs.declared.DeclHead.the-variants.{Plain, Typed, Annotated}
-use Rattle.formula.specs.declared.ExprAt.{ExprAt}
-use Rattle.formula.specs.declared.ExprAt.the-variants as E
-use Rattle.formula.specs.declared.PredAt.{PredAt}
-use Rattle.formula.specs.declared.PredAt.the-variants as P
-use Rattle.formula.specs.declared.DeclAt.{DeclAt}
-use Rattle.formula.specs.declared.DeclAt.the-variants as D
-use Rattle.formula.specs.Heads.{pick, place, name, byteOf, byteAt, onByte, onWord, wordAt, nameAt, opAt, countAt, fewAt, exprBody, exprHead, predBody, predHead, declBody, declHead, targetAt}
+use Rattle.heads.specs.declared.Byte.{Byte}
+use Rattle.heads.specs.declared.Byte.the-variants as B
+use Rattle.heads.specs.declared.Word.{Word}
+use Rattle.heads.specs.declared.Word.the-variants as W
+use Rattle.heads.specs.declared.ExprHead.{ExprHead}
+use Rattle.heads.specs.declared.ExprHead.the-variants.{Free, Bound, Literal, Atomic, Extension, Truth, Binary, Associative, Unary, Quantified, Ascribed, Explicit}
+use Rattle.heads.specs.declared.PredHead.{PredHead}
+use Rattle.heads.specs.declared.PredHead.the-variants.{Constant, Variable, Relational, Connective, Junction, Negation, Quantification, Simple, Multiple, Application}
+use Rattle.heads.specs.declared.DeclHead.{DeclHead}
+use Rattle.heads.specs.declared.DeclHead.the-variants.{Plain, Typed, Annotated}
+use Rattle.heads.specs.declared.ExprAt.{ExprAt}
+use Rattle.heads.specs.declared.ExprAt.the-variants as E
+use Rattle.heads.specs.declared.PredAt.{PredAt}
+use Rattle.heads.specs.declared.PredAt.the-variants as P
+use Rattle.heads.specs.declared.DeclAt.{DeclAt}
+use Rattle.heads.specs.declared.DeclAt.the-variants as D
+use Rattle.heads.specs.Heads.{pick, place, name, byteOf, byteAt, onByte, onWord, wordAt, nameAt, opAt, countAt, fewAt, exprBody, exprHead, predBody, predHead, declBody, declHead, targetAt}
 
 -- the bytes x stand at p and end at e
 pub record Stand (s : List ℕ) (p : ℕ) (x : List ℕ) (e : ℕ) : Type 0 where

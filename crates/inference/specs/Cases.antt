@@ -13,7 +13,7 @@ use Rattle.types.specs.Record as R
 use Rattle.types.specs.Record.{typeAt, typeBy, headOf, givenOf}
 use Rattle.formula.specs.Environment.{first, lookup, spellEntry, spellEntries}
 use Rattle.formula.specs.Tree.{place}
-use Rattle.formula.specs.Heads.{byteOf, byteAt, onByte, onWord, wordAt, nameAt, opAt, countAt, fewAt, exprBody, exprHead, predBody, predHead, declBody, declHead, targetAt}
+use Rattle.heads.specs.Heads.{byteOf, byteAt, onByte, onWord, wordAt, nameAt, opAt, countAt, fewAt, exprBody, exprHead, predBody, predHead, declBody, declHead, targetAt}
 use Rattle.formula.specs.Reader.{andThen, onNext, many, moved, ownOf, declareOf, closed, closing, typeGot, typeIn, noType, spelledIn, spellingIn}
 use Rattle.formula.specs.Parse.{declBy, declIf, declAt, declsAt, exprBy, predBy, exprIf, predIf, exprDeep, predDeep, exprAt, predAt, targetBy, targetIn, pairIn, targetsAt, pairsAt, becomesBy, becomesAt, rootBy, formulaAt, finish, whole, parsedBy, parseOf}
 use Rattle.formula.specs.EnvParse.{entryAt, typedBy, freshBy, entryBy, entriesFrom, capped, environmentOf}

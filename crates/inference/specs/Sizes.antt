@@ -10,10 +10,10 @@ use lib.ListN.{length}
 use borrow.Author.Tests.{leb-true, le-leb, le-ltb}
 use Rattle.types.specs.declared.Place.{Place}
 use Rattle.types.specs.Record.{TypeAt, got, malformed, deep, typeAt}
-use Rattle.formula.specs.declared.Word.{Word}
-use Rattle.formula.specs.declared.Word.the-variants as W
+use Rattle.heads.specs.declared.Word.{Word}
+use Rattle.heads.specs.declared.Word.the-variants as W
 use Rattle.formula.specs.Environment.{Entry, lacks, holds, Entries, lookup}
-use Rattle.formula.specs.Heads.{pick, place}
+use Rattle.heads.specs.Heads.{pick, place}
 use Rattle.types.specs.Limits.{max-bytes, max-depth, max-names, max-capacity, book}
 use Rattle.formula.specs.Reader.{Got, ok, bad}
 use Rattle.formula.specs.Parse.{Parsed, parsed, too-long, faulty, parsedBy, whole, parseOf}

@@ -2,7 +2,7 @@ use borrow.Author.Needs.{needs}
 use native.Mathlib.Omega.{arith}
 use Prim.Native.Nat.{ℕ, _<_, _≤_, _+_, _*_}
 use mathlib.Core.Path.{_≡_, refl, sym, ap, _∙_}
-use Rattle.formula.specs.Heads.{predEnd}
+use Rattle.heads.specs.Heads.{predEnd}
 use Rattle.formula.specs.Reader.{after}
 use Rattle.formula.specs.Parse.{exprsAt, predsAt}
 use Rattle.formula.specs.Steps.{after-stop, expr-wrong, expr-deep, expr-node, pred-wrong, pred-deep, pred-node, by-free, by-bound, by-literal, by-atomic, by-extension, by-truth, by-binary, by-associative, by-unary, by-quantified, by-ascribed, by-explicit, by-constant, by-variable, by-relational, by-connective, by-junction, by-negation, by-quantification, by-simple, by-multiple, by-application, exprs-none, exprs-next, preds-none, preds-next}
@@ -21,11 +21,11 @@ use Rattle.formula.proofs.read_preds.Reads as read-preds
 use Rattle.formula.proofs.read_preds.Kinds as read-preds-kinds
 use Rattle.formula.proofs.+read_expr+read_exprs+read_pred+read_preds.Lts-read_preds as read-preds-lts
 use Rattle.formula.proofs.close.Reads as close-reads
-use Rattle.formula.proofs.expr_head.Reads as expr-head-reads
+use Rattle.heads.proofs.expr_head.Reads as expr-head-reads
 use Rattle.formula.proofs.moved_to.Reads as moved-to-reads
 use Rattle.formula.proofs.own.Reads as own-reads
-use Rattle.formula.proofs.pred_end.Reads as pred-end-reads
-use Rattle.formula.proofs.pred_head.Reads as pred-head-reads
+use Rattle.heads.proofs.pred_end.Reads as pred-end-reads
+use Rattle.heads.proofs.pred_head.Reads as pred-head-reads
 use Rattle.formula.proofs.read_decls.Reads as read-decls-reads
 use Rattle.formula.proofs.read_spelling.Reads as read-spelling-reads
 use Rattle.formula.proofs.read_type.Reads as read-type-reads

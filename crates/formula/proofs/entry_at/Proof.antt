@@ -1,15 +1,15 @@
 use mathlib.Core.Path.{_≡_, refl, sym, ap, _∙_}
 use native.Mathlib.Omega.{arith}
 use borrow.Author.Tests.{eq-eqb, ne-eqb}
-use Rattle.formula.specs.Heads.{onByte}
+use Rattle.heads.specs.Heads.{onByte}
 use Rattle.formula.specs.EnvParse.{entryAt}
 use borrow.Author.Needs.{needs}
 use Rattle.formula.proofs.entry_at.Statement.{statement}
 use Rattle.formula.proofs.entry_at.Tie as tie
 use Rattle.formula.proofs.entry_at.Reads as reads
 use Rattle.formula.proofs.entry_at.Lts as lts
-use Rattle.formula.proofs.byte_at.Reads as byte-at-reads
-use Rattle.formula.proofs.name_at.Reads as name-at-reads
+use Rattle.heads.proofs.byte_at.Reads as byte-at-reads
+use Rattle.heads.proofs.name_at.Reads as name-at-reads
 
 -- src/lib.rt:809:11
 byte-at-requires : tie.Need-byte-at-requires

@@ -6,7 +6,7 @@ use Rattle.formula.proofs.read_becomes.Statement.{statement}
 use Rattle.formula.proofs.read_becomes.Tie as tie
 use Rattle.formula.proofs.read_becomes.Reads as reads
 use Rattle.formula.proofs.read_becomes.Lts as lts
-use Rattle.formula.proofs.few_at.Reads as few-at-reads
+use Rattle.heads.proofs.few_at.Reads as few-at-reads
 use Rattle.formula.proofs.moved_to.Reads as moved-to-reads
 use Rattle.formula.proofs.read_decls.Reads as read-decls-reads
 use Rattle.formula.proofs.read_expr.Reads as read-expr-reads

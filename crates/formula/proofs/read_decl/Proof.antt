@@ -6,7 +6,7 @@ use Rattle.formula.proofs.read_decl.Statement.{statement}
 use Rattle.formula.proofs.read_decl.Tie as tie
 use Rattle.formula.proofs.read_decl.Reads as reads
 use Rattle.formula.proofs.read_decl.Lts as lts
-use Rattle.formula.proofs.decl_head.Reads as decl-head-reads
+use Rattle.heads.proofs.decl_head.Reads as decl-head-reads
 use Rattle.formula.proofs.declare.Reads as declare-reads
 use Rattle.formula.proofs.read_spelling.Reads as read-spelling-reads
 use Rattle.formula.proofs.read_type.Reads as read-type-reads

@@ -6,7 +6,7 @@ use Rattle.formula.proofs.read_formula.Statement.{statement}
 use Rattle.formula.proofs.read_formula.Tie as tie
 use Rattle.formula.proofs.read_formula.Reads as reads
 use Rattle.formula.proofs.read_formula.Lts as lts
-use Rattle.formula.proofs.byte_at.Reads as byte-at-reads
+use Rattle.heads.proofs.byte_at.Reads as byte-at-reads
 use Rattle.formula.proofs.read_becomes.Reads as read-becomes-reads
 use Rattle.formula.proofs.read_expr.Reads as read-expr-reads
 use Rattle.formula.proofs.read_pred.Reads as read-pred-reads

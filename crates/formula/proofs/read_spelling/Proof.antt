@@ -6,7 +6,7 @@ use Rattle.formula.proofs.read_spelling.Statement.{statement}
 use Rattle.formula.proofs.read_spelling.Tie as tie
 use Rattle.formula.proofs.read_spelling.Reads as reads
 use Rattle.formula.proofs.read_spelling.Lts as lts
-use Rattle.formula.proofs.byte_at.Reads as byte-at-reads
+use Rattle.heads.proofs.byte_at.Reads as byte-at-reads
 use Rattle.formula.proofs.moved_to.Reads as moved-to-reads
 use Rattle.formula.proofs.read_type.Reads as read-type-reads
 

@@ -7,7 +7,7 @@ use Rattle.formula.proofs.read_target.Tie as tie
 use Rattle.formula.proofs.read_target.Reads as reads
 use Rattle.formula.proofs.read_target.Lts as lts
 use Rattle.formula.proofs.own.Reads as own-reads
-use Rattle.formula.proofs.target_at.Reads as target-at-reads
+use Rattle.heads.proofs.target_at.Reads as target-at-reads
 
 -- src/lib.rt:665:19
 enum-known-o : tie.Need-enum-known-o

@@ -1,5 +1,5 @@
 use mathlib.Core.Path.{_≡_, refl, sym, ap, _∙_}
-use Rattle.formula.specs.Steps.{type-short}
+use Rattle.heads.specs.Heads.{reach}
 use borrow.Author.Needs.{needs}
 use Rattle.formula.proofs.type_at.Statement.{statement}
 use Rattle.formula.proofs.type_at.Tie as tie
@@ -13,7 +13,8 @@ type-end-requires c κs = search needs
 
 -- src/lib.rt:429:1
 returns : tie.Need-returns
-returns c = c .type-end .ensures ∙ type-short _ _ _ _ (c .before .before .pre)
+unfolding reach
+returns c = c .type-end .ensures
 
 pub type-at-spec : {M : Type 1} → statement M
 type-at-spec = tie.close (tie.spec type-end-requires returns)

@@ -1,0 +1,51 @@
+-- The parts of a body as the code reads them: one byte at a time, up to the last place that can be numbered.
+use Prim.Native.Nat.{ℕ, _+_, _≤_, _<_}
+use native.Mathlib.Omega.{arith}
+use native.Mathlib.Decide.{decLe}
+use mathlib.Core.Path.{_≡_, sym, ap, _∙_}
+use mathlib.Core.List.{List}
+use lib.ListN.{length, getD, drop-of-length-le}
+use lib.Seq.{drop-cons, take-all, length-take-le, getD-take}
+use Rattle.types.specs.declared.Place.{Place}
+use Rattle.heads.specs.declared.Byte.{Byte}
+use Rattle.heads.specs.declared.Byte.the-variants as B
+use Rattle.heads.specs.declared.Word.{Word}
+use Rattle.heads.specs.Heads.{place, reach, byteOf, byteAt, opAt, countAt}
+
+-- a stream within reach is its own reach
+pub reach-all : (s : List ℕ) → length s ≤ 4294967295 → reach s ≡ s
+unfolding reach
+reach-all s h = take-all 4294967295 s h
+
+byte-in : (s : List ℕ) (p : Place) → p .0 < length s → B.Of (getD s (p .0) 0) (place (p .0 + 1)) ≡ byteAt s p
+unfolding byteAt byteOf
+byte-in s p h = rw (drop-cons s (p .0) 0 h)
+
+byte-out : (s : List ℕ) (p : Place) → length s ≤ p .0 → B.Missing ≡ byteAt s p
+unfolding byteAt byteOf
+byte-out s p h = rw (drop-of-length-le s h)
+
+module _ (s : List ℕ) (p : Place) where
+  pub byte-reached : p .0 < length s → p .0 < 4294967295 → B.Of (getD s (p .0) 0) (place (p .0 + 1)) ≡ byteAt (reach s) p
+  unfolding reach
+  byte-reached h l = ap (λ (b : ℕ). B.Of b (place (p .0 + 1))) (sym (getD-take 4294967295 s (p .0) 0 l)) ∙ byte-in (reach s) p (inside (decLe (length s) 4294967295))
+    where
+      inside : Dec (length s ≤ 4294967295) → p .0 < length (reach s)
+      inside (yes q) = let e = ap length (reach-all s q) in omega arith
+      inside (no q) = let e = length-take-le 4294967295 s (omega arith) in omega arith
+
+  -- past the stream's end
+  pub byte-ended : p .0 ≤ 4294967295 → length s ≤ p .0 → B.Missing ≡ byteAt (reach s) p
+  byte-ended l h = let e = ap length (reach-all s (omega arith)) in byte-out (reach s) p (omega arith)
+
+  -- past the last place
+  pub byte-beyond : 4294967295 ≤ p .0 → p .0 < length s → B.Missing ≡ byteAt (reach s) p
+  unfolding reach
+  byte-beyond l h = let e = length-take-le 4294967295 s (omega arith) in byte-out (reach s) p (omega arith)
+
+-- the code's limit is the definition's
+pub op-as : (limit m : ℕ) (s : List ℕ) (p : Place) (x : Byte) → opAt m s p ≡ x → m ≡ limit → opAt limit s p ≡ x
+op-as limit m s p x e h = ap (λ (n : ℕ). opAt n s p) (sym h) ∙ e
+
+pub count-as : (least m : ℕ) (s : List ℕ) (p : Place) (x : Word) → countAt m s p ≡ x → m ≡ least → countAt least s p ≡ x
+count-as least m s p x e h = ap (λ (n : ℕ). countAt n s p) (sym h) ∙ e
