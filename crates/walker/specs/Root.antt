@@ -1,12 +1,14 @@
 -- Assignments, and a whole formula.
 use Prim.Native.Nat.{ℕ, zero, suc, _+_, _-_, _*_}
-use mathlib.Core.Bool.{Bool, true, false}
 use mathlib.Core.List.{List}
 use lib.Dec.{eqb, ltb}
 use Rattle.types.specs.Limits.{max-depth, levels}
-use Rattle.machine.specs.declared.State.{State}
+use Rattle.types.specs.declared.Place.{Place}
+use Rattle.heads.specs.declared.Byte.{Byte}
+use Rattle.heads.specs.declared.Byte.the-variants.{Missing, Of}
+use Rattle.heads.specs.Heads.{reach, byteAt, fewAt}
 use Rattle.machine.specs.Forms.{test, then}
-use Rattle.machine.specs.Machine.{Mach, withSt, byteAt, cell, wordOf, movedOf, paidOf, makeOf, expectOf}
+use Rattle.machine.specs.Machine.{Mach, withSt, cell, wordOf, placedOf, paidOf, makeOf, expectOf}
 use Rattle.machine.specs.Types.{declareOf, timesOf}
 use Rattle.walker.specs.Walk.{halts, exprOf, predOf}
 
@@ -63,15 +65,28 @@ becomesSuchOf s env n p m =
     then (declareOf s env n a) λ b.
     suchThatOf s env (m .st .slots) n p b
 
-unfoldable pub formulaOf : List ℕ → List ℕ → Mach → Mach
-formulaOf s env m =
-    then (byteAt s (m .st .at .0) 0) λ k.
+-- an assignment of kind k at p, once it is paid: n targets from e on
+unfoldable pub assignedBy : List ℕ → List ℕ → ℕ → ℕ → ℕ → Mach → Mach
+assignedBy s env k n p m =
+    test (eqb k 0x30) (λ _. pairsOf s env n m)
+    (λ _. test (eqb k 0x31) (λ _. becomesInOf s env n m)
+    (λ _. test (eqb k 0x32) (λ _. becomesSuchOf s env n p m)
+    (λ _. halts m)))
+
+unfoldable pub assignmentBy : List ℕ → List ℕ → ℕ → Byte → Mach → Mach
+assignmentBy s env k Missing m = halts m
+assignmentBy s env k (Of n e) m =
+    then (paidOf (m .st)) λ v.
+    then (placedOf (e .0) v) λ w.
+    assignedBy s env k n (m .st .at .0) (withSt w m)
+
+-- by the kind of the root, k; what follows it stands at p
+unfoldable pub rootBy : List ℕ → List ℕ → Byte → Mach → Mach
+rootBy s env Missing m = halts m
+rootBy s env (Of k p) m =
     test (ltb k 0x20) (λ _. exprOf levels s env m)
     (λ _. test (ltb k 0x30) (λ _. predOf levels s env m)
-    (λ _. then (byteAt s (m .st .at .0) 1) λ n.
-    then (paidOf (m .st)) λ e.
-    then (movedOf 2 e) λ v.
-    test (eqb k 0x30) (λ _. pairsOf s env n (withSt v m))
-    (λ _. test (eqb k 0x31) (λ _. becomesInOf s env n (withSt v m))
-    (λ _. test (eqb k 0x32) (λ _. becomesSuchOf s env n (m .st .at .0) (withSt v m))
-    (λ _. halts (withSt v m))))))
+    (λ _. then (fewAt (reach s) p) λ n. assignmentBy s env k n m))
+
+unfoldable pub formulaOf : List ℕ → List ℕ → Mach → Mach
+formulaOf s env m = then (byteAt (reach s) (m .st .at)) λ b. rootBy s env b m

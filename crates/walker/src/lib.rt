@@ -1,5 +1,11 @@
-// The walk over a formula's bytes: expressions and predicates call each other with the remaining depth falling. Every function takes any bytes:
-// where the form was tested no malformed one is met, and elsewhere the walk stops with 2.
+// The walk over a formula's bytes: expressions and predicates call each other with the remaining depth falling. A record is known by its head,
+// read by the functions of the test of form. Every function takes any bytes: where the form was tested no malformed record is met, and elsewhere
+// the walk stops with 2.
+use heads::Byte;
+use heads::ExprAt;
+use heads::ExprHead;
+use heads::PredAt;
+use heads::PredHead;
 use machine::Parts;
 use machine::Plan;
 use machine::State;
@@ -11,8 +17,8 @@ ghost use Prim.Native.Nat.{ℕ, _+_, _*_, _-_, _<_, _≤_};
 ghost use mathlib.Core.List.{List};
 ghost use lib.ListN.{length, getD};
 ghost use Rattle.machine.specs.Machine.{mach};
-ghost use Rattle.walker.specs.Walk.{meetOf, nextOf, leafOf, oneOf, twoOf, allOf, countedOf, childrenOf, predsOf, quantOf, predQuantOf, ascribedOf, bodyOf, predBodyOf, exprOf, explicitOf, predOf};
-ghost use Rattle.walker.specs.Root.{pairsOf, productsOf, belongsOf, becomesInOf, targetsOf, sharesOf, suchThatOf, becomesSuchOf, formulaOf};
+ghost use Rattle.walker.specs.Walk.{meetOf, nextOf, oneOf, twoOf, allOf, childrenOf, predsOf, quantOf, predQuantOf, ascribedOf, bodyOf, predBodyOf, exprOf, explicitOf, ownedOf, predOf};
+ghost use Rattle.walker.specs.Root.{pairsOf, productsOf, belongsOf, becomesInOf, targetsOf, sharesOf, suchThatOf, becomesSuchOf, assignedBy, formulaOf};
 
 // A child against what it is compared with, unless the mode compares nothing.
 fn meet(
@@ -43,43 +49,9 @@ fn next(mode: u8, y: NodeRef, t: NodeRef) -> NodeRef
     y
 }
 
-// ---- records with no record below them
-
-// 01 to 04: a free identifier, a bound one, a literal, a constant of the language. k is the record's kind.
-fn leaf(
-    s: &[u8],
-    env: &[u8],
-    work: &mut [u32],
-    output: &mut [u8],
-    size: u32,
-    k: u8,
-    st: State,
-) -> State
-    ensures { λ r. ⌜ mach size r (now (work .exit)) (now (output .exit)) ≡ leafOf k (now (s .entry)) (now (env .entry)) (mach size st (now (work .entry)) (now (output .entry))) ⌝ }
-{
-    let at = st.at;
-    if k == 0x01 {
-        let name = Name(machine::word(s, at, 1));
-        return machine::free_identifier(env, work, size, name, at, machine::moved(3, st));
-    }
-    if k == 0x02 {
-        let index = machine::word(s, at, 1);
-        return machine::bound_identifier(work, output, size, index, at, machine::moved(3, st));
-    }
-    if k == 0x03 {
-        return machine::make(work, size, 0x41, 0, 0, machine::moved(1, st));
-    }
-    if k == 0x04 {
-        let n = machine::check_atomic(machine::byte(s, at, 1));
-        let p = machine::played_with(NodeRef(0), at, NodeRef(0), at, at, st);
-        return machine::play(work, output, size, n, p, machine::moved(2, st));
-    }
-    machine::stopped(2, st)
-}
-
 // ---- the cycle: expressions and predicates
 
-// An expression, with what stands below it. Its slot is taken before its parts' and filled after them.
+// An expression, with what stands below it.
 pub fn expr(
     s: &[u8],
     env: &[u8],
@@ -91,11 +63,59 @@ pub fn expr(
 ) -> State
     ensures { λ r. ⌜ mach size r (now (work .exit)) (now (output .exit)) ≡ exprOf left (now (s .entry)) (now (env .entry)) (mach size st (now (work .entry)) (now (output .entry))) ⌝ }
 {
-    let place = st.at;
-    let k = machine::byte(s, place, 0);
-    if k == 0x0C {
-        return explicit(s, env, work, output, size, left, st);
+    match heads::expr_head(s, types::MAX_NAMES, false, st.at) {
+        ExprAt::Wrong => machine::stopped(2, st),
+        ExprAt::Is(h) => match h {
+            ExprHead::Explicit(e) => explicit(s, env, work, output, size, left, e, st),
+            _ => owned(s, env, work, output, size, left, h, st),
+        },
     }
+}
+
+// 0C, an expression of a stated type, the type at e: the comparison stands at the expression's own place, after its walk.
+fn explicit(
+    s: &[u8],
+    env: &[u8],
+    work: &mut [u32],
+    output: &mut [u8],
+    size: u32,
+    left: u32,
+    e: Place,
+    st: State,
+) -> State
+    ensures { λ r. ⌜ mach size r (now (work .exit)) (now (output .exit)) ≡ explicitOf left (now (s .entry)) (now (env .entry)) e (mach size st (now (work .entry)) (now (output .entry))) ⌝ }
+{
+    let a = machine::paid(st);
+    if a.stop != 0 {
+        return a;
+    }
+    if left == 0 {
+        return machine::stopped(2, a);
+    }
+    let b = machine::skip(s, types::LEVELS, machine::placed(e, a));
+    let v = expr(s, env, work, output, size, left - 1, b);
+    let x = v.last;
+    let from = v.from;
+    let after = v.at;
+    let c = machine::placed(e, v);
+    let d = machine::meets(s, work, output, size, x, from, c);
+    machine::gave(x, machine::placed(after, d))
+}
+
+// Any other expression, with its head. Its slot is taken before its parts' and filled after them.
+fn owned(
+    s: &[u8],
+    env: &[u8],
+    work: &mut [u32],
+    output: &mut [u8],
+    size: u32,
+    left: u32,
+    h: ExprHead,
+    st: State,
+) -> State
+    ensures { λ r. ⌜ mach size r (now (work .exit)) (now (output .exit)) ≡ ownedOf left (now (s .entry)) (now (env .entry)) h (mach size st (now (work .entry)) (now (output .entry))) ⌝ }
+{
+    let place = st.at;
     let slot = st.slots;
     let e = machine::enter(st);
     if e.stop != 0 {
@@ -104,42 +124,11 @@ pub fn expr(
     if left == 0 {
         return machine::stopped(2, e);
     }
-    let v = body(s, env, work, output, size, left - 1, e);
+    let v = body(s, env, work, output, size, left - 1, h, e);
     machine::leave(work, size, slot, place, v)
 }
 
-// 0C, an expression of a stated type: the comparison stands at the expression's own place, after its walk.
-fn explicit(
-    s: &[u8],
-    env: &[u8],
-    work: &mut [u32],
-    output: &mut [u8],
-    size: u32,
-    left: u32,
-    st: State,
-) -> State
-    ensures { λ r. ⌜ mach size r (now (work .exit)) (now (output .exit)) ≡ explicitOf left (now (s .entry)) (now (env .entry)) (mach size st (now (work .entry)) (now (output .entry))) ⌝ }
-{
-    let e = machine::paid(st);
-    if e.stop != 0 {
-        return e;
-    }
-    if left == 0 {
-        return machine::stopped(2, e);
-    }
-    let a = machine::moved(1, e);
-    let spelled = a.at;
-    let b = machine::skip(s, types::LEVELS, a);
-    let v = expr(s, env, work, output, size, left - 1, b);
-    let x = v.last;
-    let from = v.from;
-    let after = v.at;
-    let c = machine::placed(spelled, v);
-    let d = machine::meets(s, work, output, size, x, from, c);
-    machine::gave(x, machine::placed(after, d))
-}
-
-// The rule of an expression, by its kind.
+// The rule of an expression, by its head.
 fn body(
     s: &[u8],
     env: &[u8],
@@ -147,45 +136,49 @@ fn body(
     output: &mut [u8],
     size: u32,
     left: u32,
+    h: ExprHead,
     st: State,
 ) -> State
-    ensures { λ r. ⌜ mach size r (now (work .exit)) (now (output .exit)) ≡ bodyOf left (now (s .entry)) (now (env .entry)) (mach size st (now (work .entry)) (now (output .entry))) ⌝ }
+    ensures { λ r. ⌜ mach size r (now (work .exit)) (now (output .exit)) ≡ bodyOf left (now (s .entry)) (now (env .entry)) h (mach size st (now (work .entry)) (now (output .entry))) ⌝ }
 {
     let at = st.at;
-    let k = machine::byte(s, at, 0);
-    if k < 0x05 {
-        return leaf(s, env, work, output, size, k, st);
+    match h {
+        ExprHead::Free(x, e) => {
+            machine::free_identifier(env, work, size, x, at, machine::placed(e, st))
+        }
+        ExprHead::Bound(i, e) => {
+            let index = i as u32;
+            machine::bound_identifier(work, output, size, index, at, machine::placed(e, st))
+        }
+        ExprHead::Literal(e) => machine::make(work, size, 0x41, 0, 0, machine::placed(e, st)),
+        ExprHead::Atomic(o, e) => {
+            let n = machine::check_atomic(o);
+            let p = machine::played_with(NodeRef(0), at, NodeRef(0), at, at, st);
+            machine::play(work, output, size, n, p, machine::placed(e, st))
+        }
+        ExprHead::Extension(n, e) => {
+            all(s, env, work, output, size, left, EXTENSION, n, machine::placed(e, st))
+        }
+        ExprHead::Truth(e) => {
+            let a = pred(s, env, work, output, size, left, machine::placed(e, st));
+            machine::make(work, size, 0x40, 0, 0, a)
+        }
+        ExprHead::Binary(o, e) => {
+            let n = machine::check_binary(o);
+            two(s, env, work, output, size, left, n, at, machine::placed(e, st))
+        }
+        ExprHead::Associative(o, n, e) => {
+            let plan = machine::check_associative(o);
+            all(s, env, work, output, size, left, plan, n, machine::placed(e, st))
+        }
+        ExprHead::Unary(o, e) => {
+            let n = machine::check_unary(o);
+            one(s, env, work, output, size, left, n, at, machine::placed(e, st))
+        }
+        ExprHead::Quantified(o, n, e) => quant(s, env, work, output, size, left, o, n, e, st),
+        ExprHead::Ascribed(e) => ascribed(s, env, work, output, size, left, e, st),
+        ExprHead::Explicit(_) => machine::stopped(2, st),
     }
-    if k == 0x05 {
-        return counted(s, env, work, output, size, left, EXTENSION, st);
-    }
-    if k == 0x06 {
-        let a = pred(s, env, work, output, size, left, machine::moved(1, st));
-        return machine::make(work, size, 0x40, 0, 0, a);
-    }
-    if k == 0x07 {
-        let n = machine::check_binary(machine::byte(s, at, 1));
-        let a = machine::moved(2, st);
-        return two(s, env, work, output, size, left, n, at, a);
-    }
-    if k == 0x08 {
-        let plan = machine::check_associative(machine::byte(s, at, 1));
-        let n = machine::word(s, at, 2);
-        let a = machine::moved(4, st);
-        return all(s, env, work, output, size, left, plan, n, a);
-    }
-    if k == 0x09 {
-        let n = machine::check_unary(machine::byte(s, at, 1));
-        let a = machine::moved(2, st);
-        return one(s, env, work, output, size, left, n, at, a);
-    }
-    if k == 0x0A {
-        return quant(s, env, work, output, size, left, st);
-    }
-    if k == 0x0B {
-        return ascribed(s, env, work, output, size, left, st);
-    }
-    machine::stopped(2, st)
 }
 
 // 0B, an expression whose type is ascribed: the ascription stands behind it, and is compared at the record's place.
@@ -196,12 +189,13 @@ fn ascribed(
     output: &mut [u8],
     size: u32,
     left: u32,
+    e: Place,
     st: State,
 ) -> State
-    ensures { λ r. ⌜ mach size r (now (work .exit)) (now (output .exit)) ≡ ascribedOf left (now (s .entry)) (now (env .entry)) (mach size st (now (work .entry)) (now (output .entry))) ⌝ }
+    ensures { λ r. ⌜ mach size r (now (work .exit)) (now (output .exit)) ≡ ascribedOf left (now (s .entry)) (now (env .entry)) e (mach size st (now (work .entry)) (now (output .entry))) ⌝ }
 {
     let at = st.at;
-    let a = expr(s, env, work, output, size, left, machine::moved(1, st));
+    let a = expr(s, env, work, output, size, left, machine::placed(e, st));
     let x = a.last;
     let b = machine::ascription(s, env, work, output, size, x, at, a);
     machine::gave(x, b)
@@ -274,24 +268,6 @@ const APPLICATION: Plan = Plan {
     mode: 0,
 };
 
-// 05, 28, 29: as many expressions as the number behind the kind says, by a plan.
-fn counted(
-    s: &[u8],
-    env: &[u8],
-    work: &mut [u32],
-    output: &mut [u8],
-    size: u32,
-    left: u32,
-    plan: Plan,
-    st: State,
-) -> State
-    ensures { λ r. ⌜ mach size r (now (work .exit)) (now (output .exit)) ≡ countedOf left (now (s .entry)) (now (env .entry)) plan (mach size st (now (work .entry)) (now (output .entry))) ⌝ }
-{
-    let n = machine::word(s, st.at, 1);
-    let a = machine::moved(3, st);
-    all(s, env, work, output, size, left, plan, n, a)
-}
-
 // Any number of expressions, by a plan.
 fn all(
     s: &[u8],
@@ -301,7 +277,7 @@ fn all(
     size: u32,
     left: u32,
     plan: Plan,
-    n: u32,
+    n: u16,
     st: State,
 ) -> State
     ensures { λ r. ⌜ mach size r (now (work .exit)) (now (output .exit)) ≡ allOf left (now (s .entry)) (now (env .entry)) plan n (mach size st (now (work .entry)) (now (output .entry))) ⌝ }
@@ -327,7 +303,7 @@ fn each(
     left: u32,
     plan: Plan,
     x: NodeRef,
-    n: u32,
+    n: u16,
     st: State,
 ) -> State
     ensures { λ r. ⌜ mach size r (now (work .exit)) (now (output .exit)) ≡ childrenOf left (now (s .entry)) (now (env .entry)) plan n x (mach size st (now (work .entry)) (now (output .entry))) ⌝ }
@@ -351,7 +327,7 @@ fn each(
     machine::gave(y, v)
 }
 
-// 0A, a quantified expression.
+// 0A, a quantified expression: its operator, its declarations' count, and where they begin.
 fn quant(
     s: &[u8],
     env: &[u8],
@@ -359,17 +335,19 @@ fn quant(
     output: &mut [u8],
     size: u32,
     left: u32,
+    o: u8,
+    n: u8,
+    e: Place,
     st: State,
 ) -> State
-    ensures { λ r. ⌜ mach size r (now (work .exit)) (now (output .exit)) ≡ quantOf left (now (s .entry)) (now (env .entry)) (mach size st (now (work .entry)) (now (output .entry))) ⌝ }
+    ensures { λ r. ⌜ mach size r (now (work .exit)) (now (output .exit)) ≡ quantOf left (now (s .entry)) (now (env .entry)) o n e (mach size st (now (work .entry)) (now (output .entry))) ⌝ }
 {
     let at = st.at;
     let around = st.bound;
-    let n = machine::check_quantified(machine::byte(s, at, 1));
-    let count = machine::byte(s, at, 2);
-    let a = machine::declare(s, env, work, output, size, count, machine::moved(3, st));
+    let k = machine::check_quantified(o);
+    let a = machine::declare(s, env, work, output, size, n, machine::placed(e, st));
     let b = pred(s, env, work, output, size, left, a);
-    let c = one(s, env, work, output, size, left, n, at, b);
+    let c = one(s, env, work, output, size, left, k, at, b);
     machine::bounded(around, c)
 }
 
@@ -385,17 +363,22 @@ pub fn pred(
 ) -> State
     ensures { λ r. ⌜ mach size r (now (work .exit)) (now (output .exit)) ≡ predOf left (now (s .entry)) (now (env .entry)) (mach size st (now (work .entry)) (now (output .entry))) ⌝ }
 {
-    let e = machine::paid(st);
-    if e.stop != 0 {
-        return e;
+    match heads::pred_head(s, st.at) {
+        PredAt::Wrong => machine::stopped(2, st),
+        PredAt::Is(h) => {
+            let e = machine::paid(st);
+            if e.stop != 0 {
+                return e;
+            }
+            if left == 0 {
+                return machine::stopped(2, e);
+            }
+            pbody(s, env, work, output, size, left - 1, h, e)
+        }
     }
-    if left == 0 {
-        return machine::stopped(2, e);
-    }
-    pbody(s, env, work, output, size, left - 1, e)
 }
 
-// The rule of a predicate, by its kind.
+// The rule of a predicate, by its head.
 fn pbody(
     s: &[u8],
     env: &[u8],
@@ -403,48 +386,40 @@ fn pbody(
     output: &mut [u8],
     size: u32,
     left: u32,
+    h: PredHead,
     st: State,
 ) -> State
-    ensures { λ r. ⌜ mach size r (now (work .exit)) (now (output .exit)) ≡ predBodyOf left (now (s .entry)) (now (env .entry)) (mach size st (now (work .entry)) (now (output .entry))) ⌝ }
+    ensures { λ r. ⌜ mach size r (now (work .exit)) (now (output .exit)) ≡ predBodyOf left (now (s .entry)) (now (env .entry)) h (mach size st (now (work .entry)) (now (output .entry))) ⌝ }
 {
     let at = st.at;
-    let k = machine::byte(s, at, 0);
-    if k == 0x20 {
-        return machine::moved(1, st);
+    match h {
+        PredHead::Constant(e) => machine::placed(e, st),
+        PredHead::Variable(e) => machine::placed(e, st),
+        PredHead::Relational(o, e) => {
+            let n = machine::check_relational(o);
+            two(s, env, work, output, size, left, n, at, machine::placed(e, st))
+        }
+        PredHead::Connective(e) => {
+            preds(s, env, work, output, size, left, 2, machine::placed(e, st))
+        }
+        PredHead::Junction(n, e) => {
+            preds(s, env, work, output, size, left, n, machine::placed(e, st))
+        }
+        PredHead::Negation(e) => pred(s, env, work, output, size, left, machine::placed(e, st)),
+        PredHead::Quantification(n, e) => pquant(s, env, work, output, size, left, n, e, st),
+        PredHead::Simple(e) => {
+            let a = machine::placed(e, st);
+            one(s, env, work, output, size, left, machine::FINITE, at, a)
+        }
+        PredHead::Multiple(n, e) => {
+            all(s, env, work, output, size, left, MULTIPLE, n, machine::placed(e, st))
+        }
+        PredHead::Application(n, e) => {
+            let a = machine::placed(e, st);
+            let b = all(s, env, work, output, size, left, APPLICATION, n, a);
+            machine::list(output, 5, at, Name(machine::NO_NAME), b)
+        }
     }
-    if k == 0x21 {
-        return machine::moved(1, st);
-    }
-    if k == 0x22 {
-        let n = machine::check_relational(machine::byte(s, at, 1));
-        let a = machine::moved(2, st);
-        return two(s, env, work, output, size, left, n, at, a);
-    }
-    if k == 0x23 {
-        return preds(s, env, work, output, size, left, 2, machine::moved(1, st));
-    }
-    if k == 0x24 {
-        let n = machine::word(s, at, 1);
-        return preds(s, env, work, output, size, left, n, machine::moved(3, st));
-    }
-    if k == 0x25 {
-        return pred(s, env, work, output, size, left, machine::moved(1, st));
-    }
-    if k == 0x26 {
-        return pquant(s, env, work, output, size, left, st);
-    }
-    if k == 0x27 {
-        let a = machine::moved(1, st);
-        return one(s, env, work, output, size, left, machine::FINITE, at, a);
-    }
-    if k == 0x28 {
-        return counted(s, env, work, output, size, left, MULTIPLE, st);
-    }
-    if k == 0x29 {
-        let a = counted(s, env, work, output, size, left, APPLICATION, st);
-        return machine::list(output, 5, at, Name(machine::NO_NAME), a);
-    }
-    machine::stopped(2, st)
 }
 
 // 26, a quantified predicate.
@@ -455,13 +430,14 @@ fn pquant(
     output: &mut [u8],
     size: u32,
     left: u32,
+    n: u8,
+    e: Place,
     st: State,
 ) -> State
-    ensures { λ r. ⌜ mach size r (now (work .exit)) (now (output .exit)) ≡ predQuantOf left (now (s .entry)) (now (env .entry)) (mach size st (now (work .entry)) (now (output .entry))) ⌝ }
+    ensures { λ r. ⌜ mach size r (now (work .exit)) (now (output .exit)) ≡ predQuantOf left (now (s .entry)) (now (env .entry)) n e (mach size st (now (work .entry)) (now (output .entry))) ⌝ }
 {
     let around = st.bound;
-    let count = machine::byte(s, st.at, 1);
-    let a = machine::declare(s, env, work, output, size, count, machine::moved(2, st));
+    let a = machine::declare(s, env, work, output, size, n, machine::placed(e, st));
     let b = pred(s, env, work, output, size, left, a);
     machine::bounded(around, b)
 }
@@ -474,7 +450,7 @@ fn preds(
     output: &mut [u8],
     size: u32,
     left: u32,
-    n: u32,
+    n: u16,
     st: State,
 ) -> State
     ensures { λ r. ⌜ mach size r (now (work .exit)) (now (output .exit)) ≡ predsOf left (now (s .entry)) (now (env .entry)) n (mach size st (now (work .entry)) (now (output .entry))) ⌝ }
@@ -660,6 +636,28 @@ fn becomes_such(
     such_that(s, env, work, output, size, first, n, place, b)
 }
 
+// An assignment of kind k at a place, once it is paid: its n targets, and what they become.
+fn assigned(
+    s: &[u8],
+    env: &[u8],
+    work: &mut [u32],
+    output: &mut [u8],
+    size: u32,
+    k: u8,
+    n: u8,
+    place: Place,
+    st: State,
+) -> State
+    ensures { λ r. ⌜ mach size r (now (work .exit)) (now (output .exit)) ≡ assignedBy (now (s .entry)) (now (env .entry)) k n (place .0) (mach size st (now (work .entry)) (now (output .entry))) ⌝ }
+{
+    match k {
+        0x30 => pairs(s, env, work, output, size, n, st),
+        0x31 => becomes_in(s, env, work, output, size, n, st),
+        0x32 => becomes_such(s, env, work, output, size, n, place, st),
+        _ => machine::stopped(2, st),
+    }
+}
+
 // A whole formula.
 pub fn formula(
     s: &[u8],
@@ -672,23 +670,22 @@ pub fn formula(
     ensures { λ r. ⌜ mach size r (now (work .exit)) (now (output .exit)) ≡ formulaOf (now (s .entry)) (now (env .entry)) (mach size st (now (work .entry)) (now (output .entry))) ⌝ }
 {
     let at = st.at;
-    let k = machine::byte(s, at, 0);
-    if k < 0x20 {
-        return expr(s, env, work, output, size, types::LEVELS, st);
+    match heads::byte_at(s, at) {
+        Byte::Missing => machine::stopped(2, st),
+        Byte::Of(k, p) => {
+            if k < 0x20 {
+                return expr(s, env, work, output, size, types::LEVELS, st);
+            }
+            if k < 0x30 {
+                return pred(s, env, work, output, size, types::LEVELS, st);
+            }
+            match heads::few_at(s, p) {
+                Byte::Missing => machine::stopped(2, st),
+                Byte::Of(n, e) => {
+                    let a = machine::placed(e, machine::paid(st));
+                    assigned(s, env, work, output, size, k, n, at, a)
+                }
+            }
+        }
     }
-    if k < 0x30 {
-        return pred(s, env, work, output, size, types::LEVELS, st);
-    }
-    let n = machine::byte(s, at, 1);
-    let a = machine::moved(2, machine::paid(st));
-    if k == 0x30 {
-        return pairs(s, env, work, output, size, n, a);
-    }
-    if k == 0x31 {
-        return becomes_in(s, env, work, output, size, n, a);
-    }
-    if k == 0x32 {
-        return becomes_such(s, env, work, output, size, n, at, a);
-    }
-    machine::stopped(2, a)
 }
