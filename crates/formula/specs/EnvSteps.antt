@@ -27,7 +27,8 @@ use Rattle.formula.specs.declared.Form.the-variants.{Good, TooLong, Bad}
 use Rattle.formula.specs.declared.Entered.{Entered}
 use Rattle.formula.specs.declared.Entered.the-variants.{Wrong, Typed}
 use Rattle.formula.specs.Environment.{Entry, lacks, holds, Entries, first, lookup, spellEntry, spellEntries}
-use Rattle.heads.specs.Heads.{pick, place, byteOf, byteAt, onByte, onWord, wordAt, nameAt}
+use Rattle.heads.specs.Reads.{reach-all}
+use Rattle.heads.specs.Heads.{reach, pick, place, byteOf, byteAt, onByte, onWord, wordAt, nameAt}
 use Rattle.formula.specs.Parse.{Parsed, parsed, too-long, faulty, formOf}
 use Rattle.formula.specs.EnvParse.{entryAt, typedBy, freshBy, entryBy, entriesFrom, capped, environmentOf, placesFrom, Cell, Table}
 use Rattle.formula.specs.EnvTold.{empty, blank, answerOf}
@@ -147,6 +148,10 @@ module _ (names : ℕ) (s cells : List ℕ) (p : Place) where
     pub entered-by : getD cells n 0 ≡ 0 → (x : TypeEnd) (left : ℕ) → endOf (typeAt left names s (e .0)) ≡ x → left ≡ max-depth → enteredBy n e x ≡ enteredAt names s cells p
     unfolding enteredAt onWord
     entered-by h x left k d = rw (w, eq-eqb (getD cells n 0) 0 h, ap (λ (l : ℕ). endOf (typeAt l names s (e .0))) (sym d) ∙ k)
+
+-- every byte has a place
+pub entered-reach : (names : ℕ) (s cells : List ℕ) (p : Place) → length s ≤ max-bytes → enteredAt names (reach s) cells p ≡ enteredAt names s cells p
+entered-reach names s cells p h = ap (λ (l : List ℕ). enteredAt names l cells p) (reach-all s (omega arith))
 
 -- ---- the loop
 

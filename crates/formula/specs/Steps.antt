@@ -39,7 +39,8 @@ use Rattle.formula.specs.declared.Fault.the-variants.{Malformed, Beyond}
 use Rattle.formula.specs.declared.Out.{Out}
 use Rattle.formula.specs.declared.Out.the-variants.{Next, Stop}
 use Rattle.formula.specs.Tree.{Spelling, Decl, Expr, extension, truth, binary, associative, unary, quantified, ascribed, explicit, Exprs, none, more, Pred, relational, connective, junction, negation, quantification, simple, multiple, application, Preds, end, also, Target, Formula, expression, predicate, becomes, becomes-in, becomes-such}
-use Rattle.heads.specs.Heads.{pick, place, byteAt, onByte, fewAt, exprHead, predHead, declHead, targetAt}
+use Rattle.heads.specs.Reads.{reach-all}
+use Rattle.heads.specs.Heads.{reach, pick, place, byteAt, onByte, fewAt, exprHead, predHead, declHead, targetAt}
 use Rattle.formula.specs.Reader.{Got, ok, bad, andThen, forget, after, onNext, many, moved, ownOf, declareOf, closed, closing, closedOf, typeGot, typeIn, noType, spelledIn, spellingIn}
 use Rattle.formula.specs.Parse.{declBy, declIf, declAt, declsAt, exprBy, predBy, exprIf, predIf, exprDeep, predDeep, exprAt, predAt, exprsAt, predsAt, targetBy, targetIn, pairIn, targetsAt, pairsAt, becomesBy, becomesAt, rootBy, start, formulaAt, finish, whole, parsedBy, parseOf, formOf}
 use Rattle.types.specs.Limits.{max-bytes, max-depth, levels, max-slots, max-opened}
@@ -483,14 +484,18 @@ module _ (names : ℕ) (s : List ℕ) where
   good-by st (ok t x) e h = let y : t ≡ st = cc in rw (y, le-ltb (st .at .0) (length s) h)
   good-by st (bad x) e h = let y : _≡_ {A = ℕ} 0 1 = cc in absurd (omega arith)
 
-  pub parse-bad : (f : Fault) → length s ≤ max-bytes → forget (formulaAt names s start) ≡ Stop f → Bad f ≡ formOf (parseOf names s)
-  unfolding whole
-  parse-bad f h e = bad-by f (formulaAt names s start) e ∙ parse-by h
+  -- every byte has a place
+  numbered : length s ≤ max-bytes → forget (formulaAt names (reach s) start) ≡ forget (formulaAt names s start)
+  numbered h = ap (λ (l : List ℕ). forget (formulaAt names l start)) (reach-all s (omega arith))
 
-  pub parse-over : (st : St) → length s ≤ max-bytes → forget (formulaAt names s start) ≡ Next st → st .at .0 < length s → Bad (Malformed (st .at)) ≡ formOf (parseOf names s)
+  pub parse-bad : (f : Fault) → length s ≤ max-bytes → forget (formulaAt names (reach s) start) ≡ Stop f → Bad f ≡ formOf (parseOf names s)
   unfolding whole
-  parse-over st h e l = over-by st (formulaAt names s start) e l ∙ parse-by h
+  parse-bad f h e = bad-by f (formulaAt names s start) (sym (numbered h) ∙ e) ∙ parse-by h
 
-  pub parse-good : (st : St) → length s ≤ max-bytes → forget (formulaAt names s start) ≡ Next st → length s ≤ st .at .0 → Good ≡ formOf (parseOf names s)
+  pub parse-over : (st : St) → length s ≤ max-bytes → forget (formulaAt names (reach s) start) ≡ Next st → st .at .0 < length s → Bad (Malformed (st .at)) ≡ formOf (parseOf names s)
   unfolding whole
-  parse-good st h e l = good-by st (formulaAt names s start) e l ∙ parse-by h
+  parse-over st h e l = over-by st (formulaAt names s start) (sym (numbered h) ∙ e) l ∙ parse-by h
+
+  pub parse-good : (st : St) → length s ≤ max-bytes → forget (formulaAt names (reach s) start) ≡ Next st → length s ≤ st .at .0 → Good ≡ formOf (parseOf names s)
+  unfolding whole
+  parse-good st h e l = good-by st (formulaAt names s start) (sym (numbered h) ∙ e) l ∙ parse-by h

@@ -510,8 +510,9 @@ pub enum Entered {
 
 // The entry at a place. types: the table of the entries before it.
 fn read_entry(s: &[u8], names: u32, types: &[u32; 256], at: Place) -> Entered
+    requires { ⌜ length (now s) ≤ max-bytes ⌝ }
     requires { ⌜ names ≤ max-names ⌝ }
-    ensures { λ r. ⌜ r ≡ enteredAt names (reach (now (s .entry))) (now (types .entry)) at ⌝ }
+    ensures { λ r. ⌜ r ≡ enteredAt names (now (s .entry)) (now (types .entry)) at ⌝ }
 {
     match entry_at(s, names, at) {
         Word::Missing => Entered::Wrong(Fault::Malformed(at)),

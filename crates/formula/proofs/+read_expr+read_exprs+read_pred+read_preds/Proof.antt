@@ -1,3 +1,4 @@
+use Rattle.heads.specs.Heads.{reach}
 use borrow.Author.Needs.{needs}
 use native.Mathlib.Omega.{arith}
 use Prim.Native.Nat.{ℕ, _<_, _≤_, _+_, _*_}
@@ -267,7 +268,7 @@ read-expr-returns-15 : (t : ℕ) → read-expr-lts.Need-returns-15 (read-expr-en
 read-expr-returns-15 t c = rw (c .before .before .before .before .before .before .before .before .before .before .before .before .before .o2 .given .1) (expr-node _ _ _ _ _ _ _ (c .before .before .before .before .before .before .if1 .left) (sym (c .before .before .before .before .before .before .before .before .before .before .expr-head .ensures) ∙ c .before .before .before .before .before .before .before .before .h .given .1) (c .before .before .before .before .h13 .given .1) _ (rw (c .read-expr6 .ensures, c .before .read-type .ensures, c .before .before .moved-to .ensures) (by-explicit _ _ _ _ _ _ _)))
 
 abbrev read-exprs-Inv-loop : read-exprs-lts.InvT-loop
-read-exprs-Inv-loop s names left n cur₀ i₀ cur i = (after cur (exprsAt left names s i) ≡ after cur₀ (exprsAt left names s i₀)) × (i ≤ i₀)
+read-exprs-Inv-loop s names left n cur₀ i₀ cur i = (after cur (exprsAt left names (reach s) i) ≡ after cur₀ (exprsAt left names (reach s) i₀)) × (i ≤ i₀)
 
 abbrev read-exprs-μ-loop : read-exprs-lts.MeasureT-loop
 read-exprs-μ-loop s names left n cur₀ i₀ cur i = i
@@ -439,7 +440,7 @@ unfolding predEnd exprsAt
 read-pred-returns-13 t c = rw (c .before .before .before .before .before .before .before .before .before .before .before .before .before .o2 .given .1) (pred-node _ _ _ _ _ _ (c .before .before .before .before .before .before .if1 .left) (sym (c .before .before .before .before .before .before .before .before .before .before .pred-head .ensures) ∙ c .before .before .before .before .before .before .before .before .h .given .1) (c .before .before .h5 .given .1) _ (rw (c .read-exprs2 .ensures, c .before .before .before .before .moved-to .ensures, c .before .before .before .before .before .pred-end .ensures, c .before .before .h5 .given .1) (by-application _ _ _ _ _ _ _ _)))
 
 abbrev read-preds-Inv-loop : read-preds-lts.InvT-loop
-read-preds-Inv-loop s names left n cur₀ i₀ cur i = (after cur (predsAt left names s i) ≡ after cur₀ (predsAt left names s i₀)) × (i ≤ i₀)
+read-preds-Inv-loop s names left n cur₀ i₀ cur i = (after cur (predsAt left names (reach s) i) ≡ after cur₀ (predsAt left names (reach s) i₀)) × (i ≤ i₀)
 
 abbrev read-preds-μ-loop : read-preds-lts.MeasureT-loop
 read-preds-μ-loop s names left n cur₀ i₀ cur i = i

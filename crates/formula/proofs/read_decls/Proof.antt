@@ -1,3 +1,4 @@
+use Rattle.heads.specs.Heads.{reach}
 use Rattle.formula.specs.Steps.{decls-none, decls-next}
 use Rattle.formula.specs.Parse.{declsAt}
 use Rattle.formula.specs.Reader.{after}
@@ -13,7 +14,7 @@ use Rattle.formula.proofs.read_decls.Lts as lts
 use Rattle.formula.proofs.read_decl.Reads as read-decl-reads
 
 abbrev Inv-loop : tie.InvT-loop
-Inv-loop s names left n cur₀ i₀ cur i = (after cur (declsAt names s left i) ≡ after cur₀ (declsAt names s left i₀)) × (i ≤ i₀)
+Inv-loop s names left n cur₀ i₀ cur i = (after cur (declsAt names (reach s) left i) ≡ after cur₀ (declsAt names (reach s) left i₀)) × (i ≤ i₀)
 
 abbrev μ-loop : tie.MeasureT-loop
 μ-loop s names left n cur₀ i₀ cur i = i

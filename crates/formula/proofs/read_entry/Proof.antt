@@ -1,4 +1,4 @@
-use Rattle.formula.specs.EnvSteps.{entry-end, entered-none, entered-again, entered-by, enteredBy}
+use Rattle.formula.specs.EnvSteps.{entered-reach, entry-end, entered-none, entered-again, entered-by, enteredBy}
 use mathlib.Core.Path.{_≡_, refl, sym, ap, _∙_}
 use native.Mathlib.Omega.{arith}
 use borrow.Author.Needs.{needs}
@@ -35,7 +35,7 @@ element-copy-out-if1 c = let h = entry-end _ _ _ _ _ (sym (c .before .before .be
 
 -- src/lib.rt:869:17
 returns : tie.Need-returns
-returns c = entered-again _ _ _ _ _ _ (sym (c .before .before .before .before .before .entry-at .ensures) ∙ c .before .before .before .x .given .1) (λ e. omega (arith, e, c .if1 .taken))
+returns c = entered-again _ _ _ _ _ _ (sym (c .before .before .before .before .before .entry-at .ensures) ∙ c .before .before .before .x .given .1) (λ e. omega (arith, e, c .if1 .taken)) ∙ entered-reach _ _ _ _ (c .before .before .before .before .before .before .before .pre .0)
 
 -- src/lib.rt:871:37
 sub-type-at : tie.Need-sub-type-at
@@ -59,22 +59,22 @@ enum-known-p-2 c = search needs
 
 -- src/lib.rt:859:1
 returns-2 : tie.Need-returns-2
-returns-2 c = entered-none _ _ _ _ (sym (c .before .before .entry-at .ensures) ∙ c .enum-told .given .1)
+returns-2 c = entered-none _ _ _ _ (sym (c .before .before .entry-at .ensures) ∙ c .enum-told .given .1) ∙ entered-reach _ _ _ _ (c .before .before .before .before .pre .0)
 
 -- src/lib.rt:859:1
 returns-3 : tie.Need-returns-3
 unfolding enteredBy
-returns-3 c = entered-by _ _ _ _ _ _ (sym (c .before .before .before .before .before .before .before .before .before .entry-at .ensures) ∙ c .before .before .before .before .before .before .before .x .given .1) (omega (arith, c .before .before .before .before .if1 .left)) _ _ (sym (c .before .before .before .type-at .ensures) ∙ c .before .f .given .1) (omega arith)
+returns-3 c = entered-by _ _ _ _ _ _ (sym (c .before .before .before .before .before .before .before .before .before .entry-at .ensures) ∙ c .before .before .before .before .before .before .before .x .given .1) (omega (arith, c .before .before .before .before .if1 .left)) _ _ (sym (c .before .before .before .type-at .ensures) ∙ c .before .f .given .1) (omega arith) ∙ entered-reach _ _ _ _ (c .before .before .before .before .before .before .before .before .before .before .before .pre .0)
 
 -- src/lib.rt:859:1
 returns-4 : tie.Need-returns-4
 unfolding enteredBy
-returns-4 c = entered-by _ _ _ _ _ _ (sym (c .before .before .before .before .before .before .before .before .before .entry-at .ensures) ∙ c .before .before .before .before .before .before .before .x .given .1) (omega (arith, c .before .before .before .before .if1 .left)) _ _ (sym (c .before .before .before .type-at .ensures) ∙ c .before .p .given .1) (omega arith)
+returns-4 c = entered-by _ _ _ _ _ _ (sym (c .before .before .before .before .before .before .before .before .before .entry-at .ensures) ∙ c .before .before .before .before .before .before .before .x .given .1) (omega (arith, c .before .before .before .before .if1 .left)) _ _ (sym (c .before .before .before .type-at .ensures) ∙ c .before .p .given .1) (omega arith) ∙ entered-reach _ _ _ _ (c .before .before .before .before .before .before .before .before .before .before .before .pre .0)
 
 -- src/lib.rt:859:1
 returns-5 : tie.Need-returns-5
 unfolding enteredBy
-returns-5 c = entered-by _ _ _ _ _ _ (sym (c .before .before .before .before .before .before .before .before .before .entry-at .ensures) ∙ c .before .before .before .before .before .before .before .x .given .1) (omega (arith, c .before .before .before .before .if1 .left)) _ _ (sym (c .before .before .before .type-at .ensures) ∙ c .before .p2 .given .1) (omega arith)
+returns-5 c = entered-by _ _ _ _ _ _ (sym (c .before .before .before .before .before .before .before .before .before .entry-at .ensures) ∙ c .before .before .before .before .before .before .before .x .given .1) (omega (arith, c .before .before .before .before .if1 .left)) _ _ (sym (c .before .before .before .type-at .ensures) ∙ c .before .p2 .given .1) (omega arith) ∙ entered-reach _ _ _ _ (c .before .before .before .before .before .before .before .before .before .before .before .pre .0)
 
 pub read-entry-spec : {M : Type 1} → statement M
 read-entry-spec =

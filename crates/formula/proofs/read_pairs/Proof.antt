@@ -1,3 +1,4 @@
+use Rattle.heads.specs.Heads.{reach}
 use Rattle.formula.specs.Steps.{pairs-none, pairs-next}
 use Rattle.formula.specs.Parse.{pairsAt}
 use Rattle.formula.specs.Reader.{after}
@@ -12,7 +13,7 @@ use Rattle.formula.proofs.read_pairs.Lts as lts
 use Rattle.formula.proofs.read_pair.Reads as read-pair-reads
 
 abbrev Inv-loop : tie.InvT-loop
-Inv-loop s names left n cur₀ i₀ cur i = (after cur (pairsAt left names s i) ≡ after cur₀ (pairsAt left names s i₀)) × (i ≤ i₀)
+Inv-loop s names left n cur₀ i₀ cur i = (after cur (pairsAt left names (reach s) i) ≡ after cur₀ (pairsAt left names (reach s) i₀)) × (i ≤ i₀)
 
 abbrev μ-loop : tie.MeasureT-loop
 μ-loop s names left n cur₀ i₀ cur i = i

@@ -1,3 +1,4 @@
+use Rattle.heads.specs.Heads.{reach}
 use Rattle.formula.specs.Steps.{targets-none, targets-next}
 use Rattle.formula.specs.Parse.{targetsAt}
 use Rattle.formula.specs.Reader.{after}
@@ -12,7 +13,7 @@ use Rattle.formula.proofs.read_targets.Lts as lts
 use Rattle.formula.proofs.read_target.Reads as read-target-reads
 
 abbrev Inv-loop : tie.InvT-loop
-Inv-loop s names n cur₀ i₀ cur i = (after cur (targetsAt names s i) ≡ after cur₀ (targetsAt names s i₀)) × (i ≤ i₀)
+Inv-loop s names n cur₀ i₀ cur i = (after cur (targetsAt names (reach s) i) ≡ after cur₀ (targetsAt names (reach s) i₀)) × (i ≤ i₀)
 
 abbrev μ-loop : tie.MeasureT-loop
 μ-loop s names n cur₀ i₀ cur i = i
