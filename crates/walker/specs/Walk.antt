@@ -12,9 +12,9 @@ use Rattle.heads.specs.declared.ExprHead.the-variants.{Free, Bound, Literal, At
 use Rattle.heads.specs.declared.PredHead.{PredHead}
 use Rattle.heads.specs.declared.PredHead.the-variants.{Constant, Variable, Relational, Connective, Junction, Negation, Quantification, Simple, Multiple, Application}
 use Rattle.heads.specs.declared.ExprAt.{ExprAt}
-use Rattle.heads.specs.declared.ExprAt.the-variants as X
+use Rattle.heads.specs.declared.ExprAt.the-variants as EA
 use Rattle.heads.specs.declared.PredAt.{PredAt}
-use Rattle.heads.specs.declared.PredAt.the-variants as Q
+use Rattle.heads.specs.declared.PredAt.the-variants as PA
 use Rattle.heads.specs.Heads.{reach, exprHead, predHead}
 use Rattle.machine.specs.declared.State.{State}
 use Rattle.machine.specs.declared.Plan.{Plan}
@@ -163,13 +163,23 @@ ownedBy f m = then (enterOf (m .st)) λ e. enteredBy f e m
 
 -- an expression by its head: X for a 0C, whose type stands at a place, f for another one
 unfoldable pub exprBy : (Place → Mach) → (ExprHead → Mach) → ExprAt → Mach → Mach
-exprBy X f X.Wrong m = halts m
-exprBy X f (X.Is (Explicit e)) m = X e
-exprBy X f (X.Is h) m = f h
+exprBy X f EA.Wrong m = halts m
+exprBy X f (EA.Is (Explicit e)) m = X e
+exprBy X f (EA.Is (Free x e)) m = f (Free x e)
+exprBy X f (EA.Is (Bound i e)) m = f (Bound i e)
+exprBy X f (EA.Is (Literal e)) m = f (Literal e)
+exprBy X f (EA.Is (Atomic o e)) m = f (Atomic o e)
+exprBy X f (EA.Is (Extension n e)) m = f (Extension n e)
+exprBy X f (EA.Is (Truth e)) m = f (Truth e)
+exprBy X f (EA.Is (Binary o e)) m = f (Binary o e)
+exprBy X f (EA.Is (Associative o n e)) m = f (Associative o n e)
+exprBy X f (EA.Is (Unary o e)) m = f (Unary o e)
+exprBy X f (EA.Is (Quantified o n e)) m = f (Quantified o n e)
+exprBy X f (EA.Is (Ascribed e)) m = f (Ascribed e)
 
 unfoldable pub predBy : (PredHead → Mach) → PredAt → Mach → Mach
-predBy f Q.Wrong m = halts m
-predBy f (Q.Is h) m = f h
+predBy f PA.Wrong m = halts m
+predBy f (PA.Is h) m = f h
 
 -- ---- the cycle, at a number of levels
 unfoldable mutual
