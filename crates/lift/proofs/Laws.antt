@@ -5,9 +5,9 @@ use Rattle.meter.specs.Meter.{Why, broken, full}
 use Rattle.unification.specs.Arena.{Words, Node}
 use Rattle.unification.specs.Make.{build}
 use Rattle.unification.specs.Lift.{crown, crown-done, crown-stop}
-use Rattle.unifier.specs.Answers.{made}
-use Rattle.unifier.specs.declared.Made.{Made}
-use Rattle.unifier.specs.declared.Made.the-variants as Ma
+use Rattle.makers.specs.Answers.{made}
+use Rattle.makers.specs.declared.Made.{Made}
+use Rattle.makers.specs.declared.Made.the-variants as Ma
 use Rattle.lift.specs.Answers.{raised, crowned}
 
 pub crown-raised : (root : Made) (e : ℕ) (ws ws′ : Words) (n : ℕ) (nd : Node) → made root ws′ ≡ build ws n nd → raised (crowned root e) ws′ ≡ crown ws n nd e

@@ -3,8 +3,8 @@ use Prim.Native.Nat.{ℕ}
 use Rattle.meter.specs.Meter.{M, ret, fail, Why, broken, full}
 use Rattle.unification.specs.Arena.{Words}
 use Rattle.unification.specs.Lift.{Raised}
-use Rattle.unifier.specs.declared.Made.{Made}
-use Rattle.unifier.specs.declared.Made.the-variants as Ma
+use Rattle.makers.specs.declared.Made.{Made}
+use Rattle.makers.specs.declared.Made.the-variants as Ma
 use Rattle.lift.specs.declared.Lifted.{Lifted}
 use Rattle.lift.specs.declared.Lifted.the-variants as L
 

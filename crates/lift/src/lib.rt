@@ -3,13 +3,13 @@
 use types::Atom;
 use types::Head;
 use types::NodeRef;
-use unifier::Made;
+use makers::Made;
 ghost use mathlib.Core.Path.{_≡_};
 ghost use Rattle.types.specs.Code.{atomIs};
 ghost use Rattle.unification.specs.Arena.{leaf};
 ghost use Rattle.unification.specs.Make.{build};
 ghost use Rattle.unification.specs.Lift.{liftOf};
-ghost use Rattle.unifier.specs.Answers.{made};
+ghost use Rattle.makers.specs.Answers.{made};
 ghost use Rattle.lift.specs.Answers.{raised, crowned};
 
 // The node of the type, and the place after its record; the capacity is used (6); no type record stands here (2).
@@ -24,9 +24,9 @@ fn atom(words: &mut [u32], count: u32, a: Atom) -> Made
     ensures { λ r. ⌜ made r (now (words .exit)) ≡ build (now (words .entry)) count (leaf (atomIs a)) ⌝ }
 {
     match a {
-        Atom::Bool => unifier::boolean(words, count),
-        Atom::Integer => unifier::int(words, count),
-        Atom::Given(name) => unifier::given(words, count, name),
+        Atom::Bool => makers::boolean(words, count),
+        Atom::Integer => makers::int(words, count),
+        Atom::Given(name) => makers::given(words, count, name),
     }
 }
 
@@ -59,7 +59,7 @@ pub fn lift(words: &mut [u32], count: u32, s: &[u8], names: u32, at: usize, left
             let inner = lift(words, count, s, names, part, left - 1);
             match inner {
                 Lifted::At(x, end) => {
-                    let root = unifier::pow(words, x.0 + 1, x);
+                    let root = makers::pow(words, x.0 + 1, x);
                     crown(root, end)
                 }
                 Lifted::Full => Lifted::Full,
@@ -73,7 +73,7 @@ pub fn lift(words: &mut [u32], count: u32, s: &[u8], names: u32, at: usize, left
                     let second = lift(words, x.0 + 1, s, names, middle, left - 1);
                     match second {
                         Lifted::At(y, end) => {
-                            let root = unifier::prod(words, y.0 + 1, x, y);
+                            let root = makers::prod(words, y.0 + 1, x, y);
                             crown(root, end)
                         }
                         Lifted::Full => Lifted::Full,

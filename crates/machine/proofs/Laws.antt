@@ -15,11 +15,12 @@ use Rattle.meter.specs.Meter.{Out, M, ret, fail}
 use Rattle.types.specs.declared.NodeRef.{NodeRef}
 use Rattle.unification.specs.Arena as A
 use Rattle.unification.specs.Make.{build}
-use Rattle.unifier.specs.declared.Made.{Made}
-use Rattle.unifier.specs.declared.Made.the-variants as Ma
+use Rattle.makers.specs.declared.Made.{Made}
+use Rattle.makers.specs.declared.Made.the-variants as Ma
 use Rattle.unifier.specs.declared.Unified.{Unified}
 use Rattle.unifier.specs.declared.Unified.the-variants as Un
-use Rattle.unifier.specs.Answers.{made, settled}
+use Rattle.makers.specs.Answers.{made}
+use Rattle.unifier.specs.Answers.{settled}
 use Rattle.machine.specs.declared.State.{State}
 use Rattle.machine.specs.Forms.{test, then}
 use Rattle.machine.specs.declared.Parts.{Parts}

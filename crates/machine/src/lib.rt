@@ -10,7 +10,7 @@ use types::Head;
 use types::Name;
 use types::NodeRef;
 use types::Place;
-use unifier::Made;
+use makers::Made;
 use unifier::Told;
 use unifier::Unified;
 ghost use mathlib.Core.Path.{_≡_};
@@ -21,7 +21,8 @@ ghost use Rattle.types.specs.Code.{atomIs};
 ghost use Rattle.heads.specs.declared.DeclAt.the-variants.{Is};
 ghost use Rattle.unification.specs.Arena.{decode, unify, solved};
 ghost use Rattle.unification.specs.Make.{build};
-ghost use Rattle.unifier.specs.Answers.{made, settled, told};
+ghost use Rattle.makers.specs.Answers.{made};
+ghost use Rattle.unifier.specs.Answers.{settled, told};
 ghost use Rattle.machine.specs.declared.State as S;
 ghost use Rattle.machine.specs.Machine.{Mach, mach, whole, cell, smaller, stoppedOf, placedOf, passedOf, gaveOf, boundOf, paidOf, enterOf, grownOf, leftOf, arrivedOf, metOf, bytesOf, overOf, putOf, wordOf, emitOf, twoOf, fourOf, listOf, makeOf, expectOf, leaveOf, rememberOf, enrolOf, pushBoundOf};
 ghost use Rattle.machine.specs.Types.{skipOf, atomOf, liftOf, freeOf, boundIdentifierOf, noteOf, notedOf, notesOf, meetsOf, spelledOf, ascriptionOf, claimOf, declarationBy, declarationOf, declareOf};
@@ -325,12 +326,12 @@ fn push(work: &mut [u32], size: u32, count: u32, kind: u32, a: u32, b: u32) -> M
 {
     let n = within(size, work.len());
     match kind {
-        0x4E => unifier::fresh(&mut work[..n], count),
-        0x40 => unifier::boolean(&mut work[..n], count),
-        0x41 => unifier::int(&mut work[..n], count),
-        0x42 => unifier::given(&mut work[..n], count, Name(a)),
-        0x43 => unifier::pow(&mut work[..n], count, NodeRef(a)),
-        0x44 => unifier::prod(&mut work[..n], count, NodeRef(a), NodeRef(b)),
+        0x4E => makers::fresh(&mut work[..n], count),
+        0x40 => makers::boolean(&mut work[..n], count),
+        0x41 => makers::int(&mut work[..n], count),
+        0x42 => makers::given(&mut work[..n], count, Name(a)),
+        0x43 => makers::pow(&mut work[..n], count, NodeRef(a)),
+        0x44 => makers::prod(&mut work[..n], count, NodeRef(a), NodeRef(b)),
         _ => Made::Broken,
     }
 }

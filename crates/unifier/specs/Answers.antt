@@ -5,18 +5,13 @@
 use Prim.Native.Nat.{ℕ}
 use mathlib.Core.Bool.{Bool, true, false}
 use lib.Dec.{eqb}
-use Rattle.meter.specs.Meter.{Out, spent, halt, done, Why, broken, full, M, ret, fail}
-use Rattle.types.specs.Ty.{Atom, bool, int, given}
-use Rattle.types.specs.declared.NodeRef.{NodeRef}
-use Rattle.types.specs.declared.Name.{Name}
+use Rattle.meter.specs.Meter.{Out, spent, halt, done, broken}
 use Rattle.unification.specs.Arena as S
 use Rattle.unification.specs.Tasks as T
 use Rattle.unification.specs.Good.{Root}
 use Rattle.unifier.specs.declared.Node.{Node}
 use Rattle.unifier.specs.declared.Found.{Found}
 use Rattle.unifier.specs.declared.Found.the-variants as F
-use Rattle.unifier.specs.declared.Made.{Made}
-use Rattle.unifier.specs.declared.Made.the-variants as Ma
 use Rattle.unifier.specs.declared.Resolved.{Resolved}
 use Rattle.unifier.specs.declared.Resolved.the-variants as R
 use Rattle.unifier.specs.declared.Told.{Told}
@@ -40,12 +35,6 @@ abbrev pub Settled : Found → Type 0
 Settled (F.Link t) = Unit {0}
 Settled (F.Is x) = Root (nodeOf x)
 Settled F.Broken = Unit {0}
-
--- a maker pays nothing: the outcome at every budget
-abbrev pub made : Made → S.Words → M S.Words (ℕ × S.Words)
-made (Ma.At t) ws = ret (t .0, ws)
-made Ma.Full ws = fail full ws
-made Ma.Broken ws = fail broken ws
 
 unfoldable pub arrived : Resolved → Out S.U (ℕ × S.Node)
 arrived (R.At t x l) = done (t .0, nodeOf x) l

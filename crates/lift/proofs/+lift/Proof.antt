@@ -14,8 +14,8 @@ use Rattle.lift.proofs.+lift.Lts-lift as lift-lts
 use Rattle.lift.proofs.atom.Reads as atom-reads
 use Rattle.lift.proofs.crown.Reads as crown-reads
 use Rattle.types.proofs.head_at.Reads as head-at-reads
-use Rattle.unifier.proofs.pow.Reads as pow-reads
-use Rattle.unifier.proofs.prod.Reads as prod-reads
+use Rattle.makers.proofs.pow.Reads as pow-reads
+use Rattle.makers.proofs.prod.Reads as prod-reads
 use Rattle.lift.proofs.+lift.{statement}
 use Rattle.lift.proofs.+lift.Tie.{close}
 

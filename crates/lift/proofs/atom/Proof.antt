@@ -7,9 +7,9 @@ use Rattle.lift.proofs.atom.Statement.{statement}
 use Rattle.lift.proofs.atom.Tie as tie
 use Rattle.lift.proofs.atom.Reads as reads
 use Rattle.lift.proofs.atom.Lts as lts
-use Rattle.unifier.proofs.boolean.Reads as boolean-reads
-use Rattle.unifier.proofs.given.Reads as given-reads
-use Rattle.unifier.proofs.int.Reads as int-reads
+use Rattle.makers.proofs.boolean.Reads as boolean-reads
+use Rattle.makers.proofs.given.Reads as given-reads
+use Rattle.makers.proofs.int.Reads as int-reads
 
 -- src/lib.rt:27:40
 enum-told : tie.Need-enum-told

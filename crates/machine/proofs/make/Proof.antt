@@ -3,8 +3,8 @@ use native.Mathlib.Omega.{arith}
 use Rattle.machine.specs.Forms.{test, then, step, yes-if, no-if, yes-eq, no-eq, yes-lt, no-lt, yes-le, no-le}
 use Rattle.machine.specs.Machine.{makeOf}
 use lib.ListN.{take}
-use Rattle.unifier.specs.declared.Made.{Made}
-use Rattle.unifier.specs.Answers.{made}
+use Rattle.makers.specs.declared.Made.{Made}
+use Rattle.makers.specs.Answers.{made}
 use Rattle.machine.proofs.Laws.{made-at, made-full, made-broken}
 use borrow.Author.Needs.{needs}
 use Rattle.machine.proofs.make.Statement.{statement}

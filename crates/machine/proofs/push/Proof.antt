@@ -4,7 +4,7 @@ use Rattle.machine.specs.Forms.{test, then, step, yes-if, no-if, yes-eq,
 use Prim.Native.Nat.{ℕ}
 use Rattle.unification.specs.Arena.{decode}
 use Rattle.unification.specs.Make.{builds-no-other}
-use Rattle.unifier.specs.Answers.{made}
+use Rattle.makers.specs.Answers.{made}
 use Rattle.machine.proofs.Laws.{lent, lent-push}
 use lib.Seq.{length-take-le}
 use borrow.Author.Needs.{needs}
@@ -13,12 +13,12 @@ use Rattle.machine.proofs.push.Tie as tie
 use Rattle.machine.proofs.push.Reads as reads
 use Rattle.machine.proofs.push.Lts as lts
 use Rattle.machine.proofs.within.Reads as within-reads
-use Rattle.unifier.proofs.boolean.Reads as boolean-reads
-use Rattle.unifier.proofs.fresh.Reads as fresh-reads
-use Rattle.unifier.proofs.given.Reads as given-reads
-use Rattle.unifier.proofs.int.Reads as int-reads
-use Rattle.unifier.proofs.pow.Reads as pow-reads
-use Rattle.unifier.proofs.prod.Reads as prod-reads
+use Rattle.makers.proofs.boolean.Reads as boolean-reads
+use Rattle.makers.proofs.fresh.Reads as fresh-reads
+use Rattle.makers.proofs.given.Reads as given-reads
+use Rattle.makers.proofs.int.Reads as int-reads
+use Rattle.makers.proofs.pow.Reads as pow-reads
+use Rattle.makers.proofs.prod.Reads as prod-reads
 
 -- src/lib.rt:360:9
 within-requires : tie.Need-within-requires

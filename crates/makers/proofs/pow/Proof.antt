@@ -2,13 +2,13 @@ use mathlib.Core.Path.{sym, _∙_}
 use borrow.Author.Tests.{lt-ltb, le-ltb}
 use Rattle.unification.specs.Arena.{choose}
 use Rattle.unification.specs.Make.{build, build-power}
-use Rattle.unifier.specs.Answers.{made}
+use Rattle.makers.specs.Answers.{made}
 use borrow.Author.Needs.{needs}
-use Rattle.unifier.proofs.pow.Statement.{statement}
-use Rattle.unifier.proofs.pow.Tie as tie
-use Rattle.unifier.proofs.pow.Reads as reads
-use Rattle.unifier.proofs.pow.Lts as lts
-use Rattle.unifier.proofs.push.Reads as push-reads
+use Rattle.makers.proofs.pow.Statement.{statement}
+use Rattle.makers.proofs.pow.Tie as tie
+use Rattle.makers.proofs.pow.Reads as reads
+use Rattle.makers.proofs.pow.Lts as lts
+use Rattle.makers.proofs.push.Reads as push-reads
 
 -- src/lib.rt:158:9
 push-requires : tie.Need-push-requires

@@ -2,13 +2,13 @@ use mathlib.Core.Path.{sym, _∙_}
 use borrow.Author.Tests.{lt-ltb, le-ltb}
 use Rattle.unification.specs.Arena.{choose}
 use Rattle.unification.specs.Make.{build, build-pair}
-use Rattle.unifier.specs.Answers.{made}
+use Rattle.makers.specs.Answers.{made}
 use borrow.Author.Needs.{needs}
-use Rattle.unifier.proofs.prod.Statement.{statement}
-use Rattle.unifier.proofs.prod.Tie as tie
-use Rattle.unifier.proofs.prod.Reads as reads
-use Rattle.unifier.proofs.prod.Lts as lts
-use Rattle.unifier.proofs.push.Reads as push-reads
+use Rattle.makers.proofs.prod.Statement.{statement}
+use Rattle.makers.proofs.prod.Tie as tie
+use Rattle.makers.proofs.prod.Reads as reads
+use Rattle.makers.proofs.prod.Lts as lts
+use Rattle.makers.proofs.push.Reads as push-reads
 
 -- src/lib.rt:169:13
 push-requires : tie.Need-push-requires

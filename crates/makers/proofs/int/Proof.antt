@@ -1,10 +1,10 @@
 use Rattle.unification.specs.Make.{build}
 use borrow.Author.Needs.{needs}
-use Rattle.unifier.proofs.int.Statement.{statement}
-use Rattle.unifier.proofs.int.Tie as tie
-use Rattle.unifier.proofs.int.Reads as reads
-use Rattle.unifier.proofs.int.Lts as lts
-use Rattle.unifier.proofs.push.Reads as push-reads
+use Rattle.makers.proofs.int.Statement.{statement}
+use Rattle.makers.proofs.int.Tie as tie
+use Rattle.makers.proofs.int.Reads as reads
+use Rattle.makers.proofs.int.Lts as lts
+use Rattle.makers.proofs.push.Reads as push-reads
 
 -- src/lib.rt:143:5
 push-requires : tie.Need-push-requires

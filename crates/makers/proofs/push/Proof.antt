@@ -3,12 +3,12 @@ use lib.ListN.{length-set}
 use native.Mathlib.Omega.{arith}
 use Rattle.unification.specs.Good.{pushAt}
 use Rattle.unification.specs.Make.{make-done, make-full, make-past, make-last}
-use Rattle.unifier.specs.Answers.{made}
+use Rattle.makers.specs.Answers.{made}
 use borrow.Author.Needs.{needs}
-use Rattle.unifier.proofs.push.Statement.{statement}
-use Rattle.unifier.proofs.push.Tie as tie
-use Rattle.unifier.proofs.push.Reads as reads
-use Rattle.unifier.proofs.push.Lts as lts
+use Rattle.makers.proofs.push.Statement.{statement}
+use Rattle.makers.proofs.push.Tie as tie
+use Rattle.makers.proofs.push.Reads as reads
+use Rattle.makers.proofs.push.Lts as lts
 
 -- src/lib.rt:109:14
 mul-at : tie.Need-mul-at

@@ -1,14 +1,14 @@
 use mathlib.Core.Path.{sym, _∙_, ap}
 use native.Mathlib.Omega.{arith}
 use Rattle.unification.specs.Make.{relate-done, relate-stop, build-small}
-use Rattle.unifier.specs.Answers.{made}
+use Rattle.makers.specs.Answers.{made}
 use borrow.Author.Needs.{needs}
-use Rattle.unifier.proofs.relation.Statement.{statement}
-use Rattle.unifier.proofs.relation.Tie as tie
-use Rattle.unifier.proofs.relation.Reads as reads
-use Rattle.unifier.proofs.relation.Lts as lts
-use Rattle.unifier.proofs.pow.Reads as pow-reads
-use Rattle.unifier.proofs.prod.Reads as prod-reads
+use Rattle.makers.proofs.relation.Statement.{statement}
+use Rattle.makers.proofs.relation.Tie as tie
+use Rattle.makers.proofs.relation.Reads as reads
+use Rattle.makers.proofs.relation.Lts as lts
+use Rattle.makers.proofs.pow.Reads as pow-reads
+use Rattle.makers.proofs.prod.Reads as prod-reads
 
 -- src/lib.rt:179:9
 prod-requires : tie.Need-prod-requires
