@@ -240,6 +240,35 @@ not-bare false h = refl
 state-is : {A : Type 0} (p q k l o r : ℕ) (a : A) → p ≡ q → k ≡ l → o ≡ r → _≡_ {A = Got A} (ok (state p k o) a) (ok (state q l r) a)
 state-is p q k l o r a h i j = rw (h, i, j)
 
+-- what an expression and a predicate begin with
+pub expr-first : (a : Expr) → (b : ℕ) × (l : List ℕ) × (spell a ≡ b ∷ l) × (b < 0x20)
+unfolding spell
+expr-first (free p n) = (0x01, _, refl, omega arith)
+expr-first (bound p i) = (0x02, _, refl, omega arith)
+expr-first (literal p) = (0x03, _, refl, omega arith)
+expr-first (atomic p c) = (0x04, _, refl, omega arith)
+expr-first (extension p es) = (0x05, _, refl, omega arith)
+expr-first (truth p x) = (0x06, _, refl, omega arith)
+expr-first (binary p c a b) = (0x07, _, refl, omega arith)
+expr-first (associative p c es) = (0x08, _, refl, omega arith)
+expr-first (unary p c a) = (0x09, _, refl, omega arith)
+expr-first (quantified p c ds x a) = (0x0A, _, refl, omega arith)
+expr-first (ascribed p a q x) = (0x0B, _, refl, omega arith)
+expr-first (explicit p t a) = (0x0C, _, refl, omega arith)
+
+pub pred-first : (a : Pred) → (b : ℕ) × (l : List ℕ) × (spell-pred a ≡ b ∷ l) × (0x20 ≤ b) × (b < 0x30)
+unfolding spell-pred
+pred-first (constant p) = (0x20, _, refl, omega arith, omega arith)
+pred-first (variable p) = (0x21, _, refl, omega arith, omega arith)
+pred-first (relational p c a b) = (0x22, _, refl, omega arith, omega arith)
+pred-first (connective p a b) = (0x23, _, refl, omega arith, omega arith)
+pred-first (junction p qs) = (0x24, _, refl, omega arith, omega arith)
+pred-first (negation p a) = (0x25, _, refl, omega arith, omega arith)
+pred-first (quantification p ds a) = (0x26, _, refl, omega arith, omega arith)
+pred-first (simple p a) = (0x27, _, refl, omega arith, omega arith)
+pred-first (multiple p es) = (0x28, _, refl, omega arith, omega arith)
+pred-first (application p es) = (0x29, _, refl, omega arith, omega arith)
+
 module _ (names : ℕ) (s : List ℕ) where
   pub type-here : (t : Ty) (d left p k o : ℕ) (r : List ℕ) → d + left ≡ levels → Fits-ty names d t → drop p s ≡ T.spell t ++ r → typeIn names s left (state p k o) ≡ ok (state (p + size-ty t) k o) t
   unfolding typeIn typeGot moved Fits-ty
@@ -539,35 +568,6 @@ module _ (names : ℕ) (s : List ℕ) where
         pairs-here xs (p + 3 + size (x .1)) (k + 1 + slots (x .1)) r (f .2) (y .2) (omega arith) (past-expr (x .1) (p + 3) (spell-pairs xs ++ r) i),
       )
       (state-is _ _ _ _ _ _ _ (let z : p + 3 + size (x .1) + size-pairs xs ≡ p + (3 + (size (x .1) + size-pairs xs)) = omega arith in z) (let z : k + 1 + slots (x .1) + slots-pairs xs ≡ k + (suc (slots (x .1)) + slots-pairs xs) = omega arith in z) refl)
-
-  -- what an expression and a predicate begin with
-  expr-first : (a : Expr) → (b : ℕ) × (l : List ℕ) × (spell a ≡ b ∷ l) × (b < 0x20)
-  unfolding spell
-  expr-first (free p n) = (0x01, _, refl, omega arith)
-  expr-first (bound p i) = (0x02, _, refl, omega arith)
-  expr-first (literal p) = (0x03, _, refl, omega arith)
-  expr-first (atomic p c) = (0x04, _, refl, omega arith)
-  expr-first (extension p es) = (0x05, _, refl, omega arith)
-  expr-first (truth p x) = (0x06, _, refl, omega arith)
-  expr-first (binary p c a b) = (0x07, _, refl, omega arith)
-  expr-first (associative p c es) = (0x08, _, refl, omega arith)
-  expr-first (unary p c a) = (0x09, _, refl, omega arith)
-  expr-first (quantified p c ds x a) = (0x0A, _, refl, omega arith)
-  expr-first (ascribed p a q x) = (0x0B, _, refl, omega arith)
-  expr-first (explicit p t a) = (0x0C, _, refl, omega arith)
-
-  pred-first : (a : Pred) → (b : ℕ) × (l : List ℕ) × (spell-pred a ≡ b ∷ l) × (0x20 ≤ b) × (b < 0x30)
-  unfolding spell-pred
-  pred-first (constant p) = (0x20, _, refl, omega arith, omega arith)
-  pred-first (variable p) = (0x21, _, refl, omega arith, omega arith)
-  pred-first (relational p c a b) = (0x22, _, refl, omega arith, omega arith)
-  pred-first (connective p a b) = (0x23, _, refl, omega arith, omega arith)
-  pred-first (junction p qs) = (0x24, _, refl, omega arith, omega arith)
-  pred-first (negation p a) = (0x25, _, refl, omega arith, omega arith)
-  pred-first (quantification p ds a) = (0x26, _, refl, omega arith, omega arith)
-  pred-first (simple p a) = (0x27, _, refl, omega arith, omega arith)
-  pred-first (multiple p es) = (0x28, _, refl, omega arith, omega arith)
-  pred-first (application p es) = (0x29, _, refl, omega arith, omega arith)
 
   root-here : (k : ℕ) (l : List ℕ) → drop 0 s ≡ k ∷ l → formulaAt names s start ≡ rootBy names s start k (place 1)
   unfolding formulaAt onByte
