@@ -1,3 +1,4 @@
+use Rattle.machine.proofs.Laws.{atom-bool, atom-int, atom-given}
 use borrow.Author.Needs.{needs}
 use Rattle.machine.proofs.atom.Statement.{statement}
 use Rattle.machine.proofs.atom.Tie as tie
@@ -35,7 +36,7 @@ same-length c = search needs
 
 -- src/lib.rt:480:1
 returns : tie.Need-returns
-returns c = ?
+returns c = λ out. atom-bool _ _ _ (c .before .before .before .before .enum-told .given .1) (c .before .before .make .ensures out)
 
 -- src/lib.rt:480:1
 same-length-2 : tie.Need-same-length-2
@@ -43,7 +44,7 @@ same-length-2 c = search needs
 
 -- src/lib.rt:480:1
 returns-2 : tie.Need-returns-2
-returns-2 c = ?
+returns-2 c = λ out. atom-int _ _ _ (c .before .before .before .before .enum-told2 .given .1) (c .before .before .make2 .ensures out)
 
 -- src/lib.rt:480:1
 same-length-3 : tie.Need-same-length-3
@@ -51,7 +52,7 @@ same-length-3 c = search needs
 
 -- src/lib.rt:480:1
 returns-3 : tie.Need-returns-3
-returns-3 c = ?
+returns-3 c = λ out. atom-given _ _ _ _ (c .before .before .before .before .before .a .given .1) (c .before .before .make3 .ensures out)
 
 pub atom-spec : {M : Type 1} → statement M
 atom-spec =
