@@ -6,11 +6,11 @@ use mathlib.Core.List.{List, [], _∷_, _++_}
 use native.Mathlib.Omega.{arith}
 use native.Mathlib.Decide.{decLt}
 use native.Mathlib.Numerals.{sub-one}
-use native.Mathlib.Nat.{mul-le-mul-right, mul-le-mul-left, le-trans, le-of-lt}
+use native.Mathlib.Nat.{mul-le-mul-right, le-of-lt}
 use lib.Dec.{eqb, ltb}
 use borrow.Author.Tests.{lt-ltb, le-ltb, ne-eqb}
-use lib.ListN.{length, getD, take, drop, set, drop-of-length-le}
-use lib.Seq.{length-take-le, take-all, take-at, drop-at, getD-drop, take-set-le, drop-set-add, set-out}
+use lib.ListN.{length, take, drop, set, drop-of-length-le}
+use lib.Seq.{length-take-le, take-all, take-at, drop-at, take-set-le, drop-set-add, set-out}
 use Rattle.meter.specs.Meter.{Out, M, ret, fail}
 use Rattle.types.specs.declared.NodeRef.{NodeRef}
 use Rattle.types.specs.declared.Name.{Name}
@@ -33,7 +33,7 @@ use Rattle.machine.specs.Forms.{test, then}
 use Rattle.machine.specs.declared.Parts.{Parts}
 use Rattle.machine.specs.Types.{typeHead, skipBy, skipOf, atomOf, liftBy, liftOf, noteOf, notedOf, notesBy, notesOf, meetsOf, annotationBy, claimOf, timesOf}
 use Rattle.machine.specs.Scripts.{itemAt, itemOf, itemsOf}
-use Rattle.machine.specs.Machine.{Mach, mach, whole, withSt, withArena, smaller, stoppedOf, grownOf, leftOf, grownBy, settledBy, judgedBy, listOf, putOf, makeOf}
+use Rattle.machine.specs.Machine.{Mach, mach, whole, withSt, smaller, stoppedOf, grownOf, leftOf, grownBy, settledBy, judgedBy, listOf, putOf, makeOf}
 
 -- ---- numbers
 pub product : (a b : ℕ) → a < 4294967296 → b < 256 → a * b < 1099511627776

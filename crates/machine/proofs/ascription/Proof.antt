@@ -5,13 +5,6 @@ use Rattle.machine.specs.Types.{ascriptionBy, ascriptionOf}
 use borrow.Author.Needs.{needs}
 use Rattle.machine.proofs.ascription.Statement.{statement}
 use Rattle.machine.proofs.ascription.Tie as tie
-use Rattle.machine.proofs.ascription.Reads as reads
-use Rattle.machine.proofs.ascription.Lts as lts
-use Rattle.heads.proofs.byte_at.Reads as byte-at-reads
-use Rattle.machine.proofs.list.Reads as list-reads
-use Rattle.machine.proofs.placed.Reads as placed-reads
-use Rattle.machine.proofs.spelled.Reads as spelled-reads
-use Rattle.machine.proofs.stopped.Reads as stopped-reads
 
 byte-at-requires : tie.Need-byte-at-requires
 byte-at-requires c κs = search needs

@@ -6,13 +6,6 @@ use Rattle.machine.proofs.Laws.{claim-plain, claim-typed, claim-annotat
 use borrow.Author.Needs.{needs}
 use Rattle.machine.proofs.claim.Statement.{statement}
 use Rattle.machine.proofs.claim.Tie as tie
-use Rattle.machine.proofs.claim.Reads as reads
-use Rattle.machine.proofs.claim.Lts as lts
-use Rattle.heads.proofs.byte_at.Reads as byte-at-reads
-use Rattle.machine.proofs.meets.Reads as meets-reads
-use Rattle.machine.proofs.placed.Reads as placed-reads
-use Rattle.machine.proofs.spelled.Reads as spelled-reads
-use Rattle.machine.proofs.stopped.Reads as stopped-reads
 
 enum-told : tie.Need-enum-told
 enum-told c = search needs

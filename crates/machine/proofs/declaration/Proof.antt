@@ -5,11 +5,6 @@ use Rattle.machine.specs.Types.{declarationBy, declarationOf}
 use borrow.Author.Needs.{needs}
 use Rattle.machine.proofs.declaration.Statement.{statement}
 use Rattle.machine.proofs.declaration.Tie as tie
-use Rattle.machine.proofs.declaration.Reads as reads
-use Rattle.machine.proofs.declaration.Lts as lts
-use Rattle.heads.proofs.decl_head.Reads as decl-head-reads
-use Rattle.machine.proofs.declared.Reads as declared-reads
-use Rattle.machine.proofs.stopped.Reads as stopped-reads
 
 decl-head-requires : tie.Need-decl-head-requires
 decl-head-requires c κs = search needs

@@ -4,15 +4,6 @@ use Rattle.machine.specs.Types.{declarationBy}
 use borrow.Author.Needs.{needs}
 use Rattle.machine.proofs.declared.Statement.{statement}
 use Rattle.machine.proofs.declared.Tie as tie
-use Rattle.machine.proofs.declared.Reads as reads
-use Rattle.machine.proofs.declared.Lts as lts
-use Rattle.heads.proofs.decl_end.Reads as decl-end-reads
-use Rattle.machine.proofs.claim.Reads as claim-reads
-use Rattle.machine.proofs.enter.Reads as enter-reads
-use Rattle.machine.proofs.leave.Reads as leave-reads
-use Rattle.machine.proofs.make.Reads as make-reads
-use Rattle.machine.proofs.placed.Reads as placed-reads
-use Rattle.machine.proofs.push_bound.Reads as push-bound-reads
 
 decl-end-requires : tie.Need-decl-end-requires
 decl-end-requires c κs = search needs

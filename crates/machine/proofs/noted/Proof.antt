@@ -4,9 +4,6 @@ use Rattle.machine.proofs.Laws.{noted-bool, noted-int, noted-given}
 use borrow.Author.Needs.{needs}
 use Rattle.machine.proofs.noted.Statement.{statement}
 use Rattle.machine.proofs.noted.Tie as tie
-use Rattle.machine.proofs.noted.Reads as reads
-use Rattle.machine.proofs.noted.Lts as lts
-use Rattle.machine.proofs.note.Reads as note-reads
 
 enum-told : tie.Need-enum-told
 enum-told c = search needs
