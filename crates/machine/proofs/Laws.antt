@@ -6,13 +6,21 @@ use mathlib.Core.List.{List, [], _∷_, _++_}
 use native.Mathlib.Omega.{arith}
 use native.Mathlib.Decide.{decLt}
 use native.Mathlib.Numerals.{sub-one}
-use native.Mathlib.Nat.{mul-le-mul-right, mul-le-mul-left, le-trans, le-of-lt}
+use native.Mathlib.Nat.{mul-le-mul-right, le-of-lt}
 use lib.Dec.{eqb, ltb}
 use borrow.Author.Tests.{lt-ltb, le-ltb, ne-eqb}
-use lib.ListN.{length, getD, take, drop, set, drop-of-length-le}
-use lib.Seq.{length-take-le, take-all, take-at, drop-at, getD-drop, take-set-le, drop-set-add, set-out}
+use lib.ListN.{length, take, drop, set, drop-of-length-le}
+use lib.Seq.{length-take-le, take-all, take-at, drop-at, take-set-le, drop-set-add, set-out}
 use Rattle.meter.specs.Meter.{Out, M, ret, fail}
 use Rattle.types.specs.declared.NodeRef.{NodeRef}
+use Rattle.types.specs.declared.Name.{Name}
+use Rattle.types.specs.declared.Place.{Place}
+use Rattle.types.specs.declared.Atom.{Atom}
+use Rattle.types.specs.declared.Atom.the-variants as At
+use Rattle.types.specs.Code.{atomIs}
+use Rattle.heads.specs.declared.DeclHead.{DeclHead}
+use Rattle.heads.specs.declared.DeclHead.the-variants as De
+use Rattle.heads.specs.Heads.{reach, byteAt}
 use Rattle.unification.specs.Arena as A
 use Rattle.unification.specs.Make.{build}
 use Rattle.makers.specs.declared.Made.{Made}
@@ -24,9 +32,9 @@ use Rattle.unifier.specs.Answers.{settled}
 use Rattle.machine.specs.declared.State.{State}
 use Rattle.machine.specs.Forms.{test, then}
 use Rattle.machine.specs.declared.Parts.{Parts}
-use Rattle.machine.specs.Types.{skipBy, skipOf, liftBy, liftOf, notesBy, notesOf, timesOf}
+use Rattle.machine.specs.Types.{typeHead, skipBy, skipOf, atomOf, liftBy, liftOf, noteOf, notedOf, notesBy, notesOf, meetsOf, annotationBy, claimOf, timesOf}
 use Rattle.machine.specs.Scripts.{itemAt, itemOf, itemsOf}
-use Rattle.machine.specs.Machine.{Mach, mach, whole, withSt, withArena, smaller, stoppedOf, grownOf, leftOf, grownBy, settledBy, judgedBy, listOf, putOf}
+use Rattle.machine.specs.Machine.{Mach, mach, whole, withSt, smaller, stoppedOf, grownOf, leftOf, grownBy, settledBy, judgedBy, listOf, putOf, makeOf}
 
 -- ---- numbers
 pub product : (a b : ℕ) → a < 4294967296 → b < 256 → a * b < 1099511627776
@@ -135,21 +143,59 @@ put-inside size i x st w out = ap₂ (λ (a b : List ℕ). whole st a b out) (ta
 pub put-outside : (size i x : ℕ) (st : State) (w out : List ℕ) → length w ≤ size + i → mach size st w out ≡ putOf i x (mach size st w out)
 put-outside size i x st w out l = ap (λ (z : List ℕ). mach size st z out) (sym (set-out w (size + i) x l)) ∙ put-inside size i x st w out
 
+-- ---- a match: one law for each way that the code can go
+pub atom-bool : (a : Atom) (m x : Mach) → a ≡ At.Bool → x ≡ makeOf 0x40 0 0 m → x ≡ atomOf (atomIs a) m
+unfolding atomOf atomIs
+atom-bool a m x e h = rw e h
+
+pub atom-int : (a : Atom) (m x : Mach) → a ≡ At.Integer → x ≡ makeOf 0x41 0 0 m → x ≡ atomOf (atomIs a) m
+unfolding atomOf atomIs
+atom-int a m x e h = rw e h
+
+pub atom-given : (a : Atom) (n : Name) (m x : Mach) → a ≡ At.Given n → x ≡ makeOf 0x42 (n .0) 0 m → x ≡ atomOf (atomIs a) m
+unfolding atomOf atomIs
+atom-given a n m x e h = rw e h
+
+pub noted-bool : (a : Atom) (env : List ℕ) (p : ℕ) (m x : Mach) → a ≡ At.Bool → x ≡ m → x ≡ notedOf env p (atomIs a) m
+unfolding notedOf atomIs
+noted-bool a env p m x e h = rw e h
+
+pub noted-int : (a : Atom) (env : List ℕ) (p : ℕ) (m x : Mach) → a ≡ At.Integer → x ≡ m → x ≡ notedOf env p (atomIs a) m
+unfolding notedOf atomIs
+noted-int a env p m x e h = rw e h
+
+pub noted-given : (a : Atom) (n : Name) (env : List ℕ) (p : ℕ) (m x : Mach) → a ≡ At.Given n → x ≡ noteOf env (n .0) p m → x ≡ notedOf env p (atomIs a) m
+unfolding notedOf atomIs
+noted-given a n env p m x e h = rw e h
+
+pub claim-plain : (h : DeclHead) (q : Place) (s env : List ℕ) (r p : ℕ) (m x : Mach) → h ≡ De.Plain q → x ≡ m → x ≡ claimOf s env h r p m
+unfolding claimOf
+claim-plain h q s env r p m x e k = rw e k
+
+pub claim-typed : (h : DeclHead) (q : Place) (s env : List ℕ) (r p : ℕ) (m x : Mach) → h ≡ De.Typed q → x ≡ meetsOf s r p m → x ≡ claimOf s env h r p m
+unfolding claimOf
+claim-typed h q s env r p m x e k = rw e k
+
+pub claim-annotated : (h : DeclHead) (q : Place) (s env : List ℕ) (r p : ℕ) (m x : Mach) → h ≡ De.Annotated q
+    → x ≡ then (byteAt (reach s) (m .st .at)) (λ b. annotationBy s env r p b m) → x ≡ claimOf s env h r p m
+unfolding claimOf
+claim-annotated h q s env r p m x e k = rw e k
+
 -- ---- the recursive readers, at a number of levels
 pub by-skip : (l : ℕ) (s : List ℕ) (v x : State)
-    → x ≡ test (eqb (v .stop) 0) (λ _. test (eqb l 0) (λ _. stoppedOf 2 v) (λ _. skipBy (skipOf (l - 1) s) s v)) (λ _. v) → x ≡ skipOf l s v
+    → x ≡ test (eqb (v .stop) 0) (λ _. test (eqb l 0) (λ _. stoppedOf 2 v) (λ _. then (typeHead s (v .at .0)) λ h. skipBy (λ y. skipOf (l - 1) s y) h v)) (λ _. v) → x ≡ skipOf l s v
 unfolding skipOf test
 by-skip zero s v x h = h
 by-skip (suc l) s v x h = rw (sub-one, ne-eqb (suc l) 0 (λ e. omega arith)) at h
 
 pub by-lift : (l : ℕ) (s : List ℕ) (m x : Mach)
-    → x ≡ test (eqb (m .st .stop) 0) (λ _. test (eqb l 0) (λ _. then (stoppedOf 2 (m .st)) λ v. withSt v m) (λ _. liftBy (liftOf (l - 1) s) s m)) (λ _. m) → x ≡ liftOf l s m
+    → x ≡ test (eqb (m .st .stop) 0) (λ _. test (eqb l 0) (λ _. then (stoppedOf 2 (m .st)) λ v. withSt v m) (λ _. then (typeHead s (m .st .at .0)) λ h. liftBy (λ y. liftOf (l - 1) s y) h m)) (λ _. m) → x ≡ liftOf l s m
 unfolding liftOf test
 by-lift zero s m x h = h
 by-lift (suc l) s m x h = rw (sub-one, ne-eqb (suc l) 0 (λ e. omega arith)) at h
 
 pub by-notes : (l : ℕ) (s env : List ℕ) (p : ℕ) (m x : Mach)
-    → x ≡ test (eqb (m .st .stop) 0) (λ _. test (eqb l 0) (λ _. then (stoppedOf 2 (m .st)) λ v. withSt v m) (λ _. notesBy (notesOf (l - 1) s env p) s env p m)) (λ _. m) → x ≡ notesOf l s env p m
+    → x ≡ test (eqb (m .st .stop) 0) (λ _. test (eqb l 0) (λ _. then (stoppedOf 2 (m .st)) λ v. withSt v m) (λ _. then (typeHead s (m .st .at .0)) λ h. notesBy (λ y. notesOf (l - 1) s env p y) env p h m)) (λ _. m) → x ≡ notesOf l s env p m
 unfolding notesOf test
 by-notes zero s env p m x h = h
 by-notes (suc l) s env p m x h = rw (sub-one, ne-eqb (suc l) 0 (λ e. omega arith)) at h

@@ -1,6 +1,6 @@
 -- Types in the stream, names, notes and declarations, as the machine meets them. A record is known by its head, the same that the test of form
 -- reads. A type is read level by level: `left` levels are allowed.
-use Prim.Native.Nat.{ℕ, zero, suc, _+_, _-_, _*_}
+use Prim.Native.Nat.{ℕ, zero, suc, _-_}
 use mathlib.Core.List.{List}
 use lib.ListN.{drop}
 use lib.Dec.{eqb, ltb}

@@ -1,53 +1,50 @@
-use mathlib.Core.Path.{refl, sym, ap, _∙_}
+use mathlib.Core.Path.{refl, sym, _∙_}
 use native.Mathlib.Omega.{arith}
-use Rattle.machine.specs.Forms.{test, then, step, yes-if, no-if, yes-eq, no-eq, yes-lt, no-lt, yes-le, no-le}
-use Rattle.machine.specs.Types.{declarationOf}
+use Rattle.machine.specs.Forms.{step}
+use Rattle.machine.specs.Types.{declarationBy, declarationOf}
 use borrow.Author.Needs.{needs}
 use Rattle.machine.proofs.declaration.Statement.{statement}
 use Rattle.machine.proofs.declaration.Tie as tie
 
-byte-requires : tie.Need-byte-requires
-byte-requires c κs = search needs
+decl-head-requires : tie.Need-decl-head-requires
+decl-head-requires c κs = search needs
 
-enter-requires : tie.Need-enter-requires
-enter-requires c κs = search needs
+enum-told : tie.Need-enum-told
+enum-told c = search needs
 
-moved-requires : tie.Need-moved-requires
-moved-requires c κs = search needs
+stopped-requires : tie.Need-stopped-requires
+stopped-requires c κs = search needs
 
-make-requires : tie.Need-make-requires
-make-requires c κs = search needs
+enum-known-h : tie.Need-enum-known-h
+enum-known-h c = search needs
 
-leave-requires : tie.Need-leave-requires
-leave-requires c κs = search needs
-
-push-bound-requires : tie.Need-push-bound-requires
-push-bound-requires c κs = search needs
-
-claim-requires : tie.Need-claim-requires
-claim-requires c κs = search needs
-
-same-length : tie.Need-same-length
-same-length c = omega (arith, c .before .before .before .before .claim .kept .1 .1 .0, c .before .before .before .before .claim .kept .1 .1 .1 .0, c .before .before .before .before .before .before .before .before .before .push-bound .kept .0, c .before .before .before .before .before .before .before .before .before .before .before .before .before .leave .kept .0, c .before .before .before .before .before .before .before .before .before .before .before .before .before .before .before .before .before .before .make .kept .0)
-
-same-length-2 : tie.Need-same-length-2
-same-length-2 c = omega (arith, c .before .before .before .before .claim .kept .1 .1 .0, c .before .before .before .before .claim .kept .1 .1 .1 .0, c .before .before .before .before .before .before .before .before .before .push-bound .kept .0, c .before .before .before .before .before .before .before .before .before .before .before .before .before .leave .kept .0, c .before .before .before .before .before .before .before .before .before .before .before .before .before .before .before .before .before .before .make .kept .0)
+declared-requires : tie.Need-declared-requires
+declared-requires c κs = search needs
 
 returns : tie.Need-returns
+unfolding declarationOf declarationBy
+returns c = step _ _ _ _ (sym (c .before .enum-told .given .1) ∙ c .before .before .before .decl-head .ensures) (step _ _ _ _ (c .stopped .ensures) refl)
+
+same-length : tie.Need-same-length
+same-length c = omega (arith, c .before .before .before .before .declared .kept .1 .1 .0, c .before .before .before .before .declared .kept .1 .1 .1 .0)
+
+same-length-2 : tie.Need-same-length-2
+same-length-2 c = omega (arith, c .before .before .before .before .declared .kept .1 .1 .0, c .before .before .before .before .declared .kept .1 .1 .1 .0)
+
+returns-2 : tie.Need-returns-2
 unfolding declarationOf
-returns c = step _ _ _ _ (c .before .before .before .before .before .before .before .before .before .before .before .before .before .before .before .before .before .before .before .before .before .before .byte .ensures) (step _ _ _ _ (c .before .before .before .before .before .before .before .before .before .before .before .before .before .before .before .before .before .before .before .before .before .enter .ensures) (step _ _ _ _ (c .before .before .before .before .before .before .before .before .before .before .before .before .before .before .before .before .before .before .before .before .moved .ensures) (step _ _ _ _ (c .before .before .before .before .before .before .before .before .before .before .before .before .before .before .before .before .before .before .make .ensures _) (step _ _ _ _ (c .before .before .before .before .before .before .before .before .before .before .before .before .before .leave .ensures _) (step _ _ _ _ (c .before .before .before .before .before .before .before .before .before .push-bound .ensures _) (c .before .before .before .before .claim .ensures))))))
+returns-2 c = step _ _ _ _ (sym (c .before .before .before .before .before .before .before .before .h .given .1) ∙ c .before .before .before .before .before .before .before .before .before .before .decl-head .ensures) (c .before .before .before .before .declared .ensures)
 
 pub declaration-spec : {M : Type 1} → statement M
 declaration-spec =
     tie.close
     (tie.spec
-    byte-requires
-    enter-requires
-    moved-requires
-    make-requires
-    leave-requires
-    push-bound-requires
-    claim-requires
+    decl-head-requires
+    enum-told
+    stopped-requires
+    enum-known-h
+    declared-requires
+    returns
     same-length
     same-length-2
-    returns)
+    returns-2)

@@ -1,44 +1,36 @@
+use mathlib.Core.Path.{refl}
+use native.Mathlib.Omega.{arith}
+use Rattle.machine.proofs.Laws.{noted-bool, noted-int, noted-given}
+use borrow.Author.Needs.{needs}
 use Rattle.machine.proofs.noted.Statement.{statement}
 use Rattle.machine.proofs.noted.Tie as tie
-use Rattle.machine.proofs.noted.Reads as reads
-use Rattle.machine.proofs.noted.Lts as lts
-use Rattle.machine.proofs.note.Reads as note-reads
 
--- src/lib.rt:614:23
 enum-told : tie.Need-enum-told
-enum-told c = ?
+enum-told c = search needs
 
--- src/lib.rt:615:26
 enum-told-2 : tie.Need-enum-told-2
-enum-told-2 c = ?
+enum-told-2 c = search needs
 
--- src/lib.rt:616:21
 enum-known-a : tie.Need-enum-known-a
-enum-known-a c = ?
+enum-known-a c = search needs
 
--- src/lib.rt:616:27
 note-requires : tie.Need-note-requires
-note-requires c κs = ?
+note-requires c κs = search needs
 
--- src/lib.rt:602:1
 returns : tie.Need-returns
-returns c = ?
+returns c = noted-bool _ _ _ _ _ (c .enum-told .given .1) refl
 
--- src/lib.rt:602:1
 returns-2 : tie.Need-returns-2
-returns-2 c = ?
+returns-2 c = noted-int _ _ _ _ _ (c .enum-told2 .given .1) refl
 
--- src/lib.rt:602:1
 same-length : tie.Need-same-length
-same-length c = ?
+same-length c = omega (arith, c .before .before .before .before .note .kept .1 .0, c .before .before .before .before .note .kept .1 .1 .0)
 
--- src/lib.rt:602:1
 same-length-2 : tie.Need-same-length-2
-same-length-2 c = ?
+same-length-2 c = omega (arith, c .before .before .before .before .note .kept .1 .0, c .before .before .before .before .note .kept .1 .1 .0)
 
--- src/lib.rt:602:1
 returns-3 : tie.Need-returns-3
-returns-3 c = ?
+returns-3 c = noted-given _ _ _ _ _ _ (c .before .before .before .before .before .before .before .before .a .given .1) (c .before .before .before .before .note .ensures)
 
 pub noted-spec : {M : Type 1} → statement M
 noted-spec =
