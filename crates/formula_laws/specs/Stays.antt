@@ -9,7 +9,6 @@ use lib.ListN.{length, getD, take, drop}
 use lib.Seq.{drop-cons, getD-take}
 use native.Mathlib.Decide.{decLe}
 use Rattle.types.specs.Record as R
-use Rattle.formula.specs.Steps.{byte-in}
 use lib.Dec.{leb, ltb, eqb}
 use borrow.Author.Tests.{ltb-true, eqb-true, lt-ltb, le-ltb}
 use Rattle.types.specs.declared.Name.{Name}
@@ -127,6 +126,10 @@ rep-many m nil cons x x′ h (suc n) st =
     rep-then m (st .at .0) (x st) (x′ st) _ _ (h st) (λ a t. rep-last m (t .at .0) (many nil cons x n t) (many nil cons x′ n t) (cons a) (rep-many m nil cons x x′ h n t))
 
 -- ---- the same bytes, the same heads
+
+byte-in : (s : List ℕ) (p : Place) → p .0 < length s → B.Of (getD s (p .0) 0) (place (p .0 + 1)) ≡ byteAt s p
+unfolding byteAt byteOf
+byte-in s p h = rw (drop-cons s (p .0) 0 h)
 
 byte-ends : (s : List ℕ) (p : Place) (b : ℕ) (e : Place) → byteAt s p ≡ B.Of b e → p .0 ≤ e .0
 unfolding byteAt byteOf
