@@ -128,6 +128,10 @@ rep-many m nil cons x x′ h (suc n) st =
 
 -- ---- the same bytes, the same heads
 
+byte-in : (s : List ℕ) (p : Place) → p .0 < length s → B.Of (getD s (p .0) 0) (place (p .0 + 1)) ≡ byteAt s p
+unfolding byteAt byteOf
+byte-in s p h = rw (drop-cons s (p .0) 0 h)
+
 byte-ends : (s : List ℕ) (p : Place) (b : ℕ) (e : Place) → byteAt s p ≡ B.Of b e → p .0 ≤ e .0
 unfolding byteAt byteOf
 byte-ends s p b e = go (drop (p .0) s)
