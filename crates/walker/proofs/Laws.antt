@@ -1,5 +1,5 @@
 -- The steps of the walk at a number of levels, and of its loops, as the code has them.
-use Prim.Native.Nat.{ℕ, zero, suc, _+_, _-_, _*_, _<_, _≤_}
+use Prim.Native.Nat.{ℕ, zero, suc, _+_, _-_, _<_, _≤_}
 use mathlib.Core.Path.{_≡_, refl, sym, ap, ap₂, _∙_}
 use mathlib.Core.Bool.{false}
 use mathlib.Core.List.{List, [], _∷_}
@@ -23,10 +23,9 @@ use Rattle.heads.specs.declared.ExprAt.the-variants as EA
 use Rattle.heads.specs.declared.PredAt.{PredAt}
 use Rattle.heads.specs.declared.PredAt.the-variants as PA
 use Rattle.heads.specs.Heads.{reach, exprHead, predHead, fewAt}
-use Rattle.machine.specs.declared.State.{State}
 use Rattle.machine.specs.declared.Plan.{Plan}
 use Rattle.machine.specs.Forms.{test, then}
-use Rattle.machine.specs.Machine.{Mach, withSt, stoppedOf, placedOf, gaveOf, paidOf, leaveOf}
+use Rattle.machine.specs.Machine.{Mach, withSt, placedOf, gaveOf, paidOf, leaveOf}
 use Rattle.machine.specs.Types.{timesOf}
 use Rattle.walker.specs.Walk.{halts, exprBy, predBy, paidBy, ownedBy, typedBy, bodyBy, predBodyBy, exprOf, predOf, explicitOf, ownedOf, childBy, childrenBy, nextOf}
 use Rattle.walker.specs.Root.{shareBy, sharesFrom, assignedBy, assignmentBy, rootBy}

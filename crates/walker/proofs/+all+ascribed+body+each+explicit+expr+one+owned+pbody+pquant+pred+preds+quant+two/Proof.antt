@@ -1,14 +1,13 @@
-use mathlib.Core.Path.{_≡_, refl, sym, ap, _∙_}
+use mathlib.Core.Path.{_≡_, refl, sym, _∙_}
 use native.Mathlib.Omega.{arith}
-use Prim.Native.Nat.{_+_, _*_}
-use Rattle.machine.specs.Forms.{test, then, step, yes-if, no-if, yes-eq, no-eq, yes-lt, no-lt, yes-le, no-le}
+use Rattle.machine.specs.Forms.{step, yes-eq, no-eq}
 use lib.ListN.{length}
 use Rattle.machine.specs.Machine.{mach}
 use Rattle.machine.specs.Types.{timesOf}
 use Rattle.walker.specs.Walk.{paidBy, ownedBy, enteredBy, typedBy, ascribedBy, bodyBy, predBodyBy, oneBy, twoBy, allBy, childBy, childrenBy, quantBy, predQuantBy, exprOf, predOf}
 use Rattle.walker.proofs.Laws.{by-expr, by-owned, by-explicit, by-pred, expr-wrong, expr-explicit, expr-owned, pred-wrong, pred-is, by-body, by-pred-body, times-none, by-times, children-end, children-more}
 use borrow.Author.Needs.{needs}
-use Prim.Native.Nat.{ℕ, _<_}
+use Prim.Native.Nat.{ℕ, _+_, _*_, _<_}
 use borrow.Fn.Kinds.{In}
 use borrow.Fn.PlainCycle.{Measures, is, falls, and}
 use Rattle.walker.proofs.all.Reads as all

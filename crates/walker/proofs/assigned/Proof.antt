@@ -1,4 +1,4 @@
-use mathlib.Core.Path.{_≡_, refl, sym, _∙_}
+use mathlib.Core.Path.{refl}
 use native.Mathlib.Omega.{arith}
 use borrow.Author.Needs.{needs}
 use Rattle.machine.specs.Forms.{step, yes-eq, no-eq}
@@ -36,7 +36,7 @@ same-length-4 c = omega (arith, c .before .before .before .before .becomes-in .k
 
 returns-2 : tie.Need-returns-2
 unfolding assignedBy
-returns-2 c = no-eq _ _ _ _ _ (λ e. omega (arith, c .before .before .before .before .before .before .before .match .keys2)) (yes-eq _ _ _ _ _ (c .before .before .before .before .before .before .before .match .keys2) (c .before .before .before .before .becomes-in .ensures))
+returns-2 c = no-eq (c .before .before .before .before .before .before .before .before .before .before .before .before .args .k) 0x30 _ _ _ (λ e. omega (arith, c .before .before .before .before .before .before .before .match .keys2)) (yes-eq _ _ _ _ _ (c .before .before .before .before .before .before .before .match .keys2) (c .before .before .before .before .becomes-in .ensures))
 
 same-length-5 : tie.Need-same-length-5
 same-length-5 c = omega (arith, c .before .before .before .before .becomes-such .kept .1 .1 .0, c .before .before .before .before .becomes-such .kept .1 .1 .1 .0)
@@ -46,7 +46,7 @@ same-length-6 c = omega (arith, c .before .before .before .before .becomes-such 
 
 returns-3 : tie.Need-returns-3
 unfolding assignedBy
-returns-3 c = no-eq _ _ _ _ _ (λ e. omega (arith, c .before .before .before .before .before .before .before .match .keys3)) (no-eq _ _ _ _ _ (λ e. omega (arith, c .before .before .before .before .before .before .before .match .keys3)) (yes-eq _ _ _ _ _ (c .before .before .before .before .before .before .before .match .keys3) (c .before .before .before .before .becomes-such .ensures)))
+returns-3 c = no-eq (c .before .before .before .before .before .before .before .before .before .before .before .before .args .k) 0x30 _ _ _ (λ e. omega (arith, c .before .before .before .before .before .before .before .match .keys3)) (no-eq (c .before .before .before .before .before .before .before .before .before .before .before .before .args .k) 0x31 _ _ _ (λ e. omega (arith, c .before .before .before .before .before .before .before .match .keys3)) (yes-eq _ _ _ _ _ (c .before .before .before .before .before .before .before .match .keys3) (c .before .before .before .before .becomes-such .ensures)))
 
 returns-4 : tie.Need-returns-4
 unfolding assignedBy
