@@ -1,38 +1,123 @@
 -- The steps of the walk at a number of levels, and of its loops, as the code has them.
-use Prim.Native.Nat.{ℕ, zero, suc, _+_, _-_, _*_, _<_, _≤_}
+use Prim.Native.Nat.{ℕ, zero, suc, _+_, _-_, _<_, _≤_}
 use mathlib.Core.Path.{_≡_, refl, sym, ap, ap₂, _∙_}
-use mathlib.Core.List.{List}
+use mathlib.Core.Bool.{false}
+use mathlib.Core.List.{List, [], _∷_}
 use native.Mathlib.Numerals.{sub-one}
 use native.Mathlib.Omega.{arith}
-use lib.Dec.{eqb}
+use lib.Dec.{eqb, ltb}
 use borrow.Author.Tests.{ne-eqb}
+use types.Run.{OneOf, miss}
+use denote.Enum.Declared.{tagOf}
+use Rattle.types.specs.Limits.{levels, max-names}
 use Rattle.types.specs.declared.NodeRef.{NodeRef}
-use Rattle.machine.specs.declared.State.{State}
+use Rattle.types.specs.declared.Place.{Place}
+use Rattle.heads.proofs.ExprHead.{the-type}
+use Rattle.heads.specs.declared.Byte.{Byte}
+use Rattle.heads.specs.declared.Byte.the-variants.{Missing, Of}
+use Rattle.heads.specs.declared.ExprHead.{ExprHead}
+use Rattle.heads.specs.declared.ExprHead.the-variants.{Free, Bound, Literal, Atomic, Extension, Truth, Binary, Associative, Unary, Quantified, Ascribed, Explicit}
+use Rattle.heads.specs.declared.PredHead.{PredHead}
+use Rattle.heads.specs.declared.ExprAt.{ExprAt}
+use Rattle.heads.specs.declared.ExprAt.the-variants as EA
+use Rattle.heads.specs.declared.PredAt.{PredAt}
+use Rattle.heads.specs.declared.PredAt.the-variants as PA
+use Rattle.heads.specs.Heads.{reach, exprHead, predHead, fewAt}
 use Rattle.machine.specs.declared.Plan.{Plan}
 use Rattle.machine.specs.Forms.{test, then}
-use Rattle.machine.specs.Machine.{Mach, withSt, stoppedOf, gaveOf, leaveOf}
+use Rattle.machine.specs.Machine.{Mach, withSt, placedOf, gaveOf, paidOf, leaveOf}
 use Rattle.machine.specs.Types.{timesOf}
-use Rattle.walker.specs.Walk.{halts, exprBy, paidBy, typedBy, bodyBy, predBodyBy, exprOf, predOf, explicitOf, childBy, childrenBy, nextOf}
-use Rattle.walker.specs.Root.{shareBy, sharesFrom}
+use Rattle.walker.specs.Walk.{halts, exprBy, predBy, paidBy, ownedBy, typedBy, bodyBy, predBodyBy, exprOf, predOf, explicitOf, ownedOf, childBy, childrenBy, nextOf}
+use Rattle.walker.specs.Root.{shareBy, sharesFrom, assignedBy, assignmentBy, rootBy}
 
 pub by-expr : (l : ℕ) (s env : List ℕ) (m x : Mach)
-    → x ≡ exprBy (explicitOf l s env) (λ e. test (eqb l 0) (λ _. halts (withSt e m)) (λ _. then (bodyBy (exprOf (l - 1) s env) (predOf (l - 1) s env) s env (withSt e m)) λ v. leaveOf (m .st .slots) (m .st .at .0) v)) s m
+    → x ≡ then (exprHead max-names (reach s) false (m .st .at)) (λ h. exprBy (λ e. explicitOf l s env e m) (λ g. ownedOf l s env g m) h m)
     → x ≡ exprOf l s env m
-unfolding exprOf explicitOf test
+unfolding exprOf explicitOf ownedOf
 by-expr zero s env m x h = h
-by-expr (suc l) s env m x h = rw (sub-one, ne-eqb (suc l) 0 (λ e. omega arith)) at h
+by-expr (suc l) s env m x h = h
+
+pub by-owned : (l : ℕ) (s env : List ℕ) (g : ExprHead) (m x : Mach)
+    → x ≡ ownedBy (λ e. test (eqb l 0) (λ _. halts (withSt e m)) (λ _. then (bodyBy (exprOf (l - 1) s env) (predOf (l - 1) s env) s env g (withSt e m)) λ v. leaveOf (m .st .slots) (m .st .at .0) v)) m
+    → x ≡ ownedOf l s env g m
+unfolding ownedOf test
+by-owned zero s env g m x h = h
+by-owned (suc l) s env g m x h = rw (sub-one, ne-eqb (suc l) 0 (λ e. omega arith)) at h
+
+pub by-explicit : (l : ℕ) (s env : List ℕ) (p : Place) (m x : Mach)
+    → x ≡ paidBy (λ e. test (eqb l 0) (λ _. halts (withSt e m)) (λ _. typedBy (exprOf (l - 1) s env) s p (withSt e m))) m → x ≡ explicitOf l s env p m
+unfolding explicitOf test
+by-explicit zero s env p m x h = h
+by-explicit (suc l) s env p m x h = rw (sub-one, ne-eqb (suc l) 0 (λ e. omega arith)) at h
 
 pub by-pred : (l : ℕ) (s env : List ℕ) (m x : Mach)
-    → x ≡ paidBy (λ e. test (eqb l 0) (λ _. halts (withSt e m)) (λ _. predBodyBy (exprOf (l - 1) s env) (predOf (l - 1) s env) s env (withSt e m))) m → x ≡ predOf l s env m
+    → x ≡ then (predHead (reach s) (m .st .at)) (λ h. predBy (λ g. paidBy (λ e. test (eqb l 0) (λ _. halts (withSt e m)) (λ _. predBodyBy (exprOf (l - 1) s env) (predOf (l - 1) s env) s env g (withSt e m))) m) h m)
+    → x ≡ predOf l s env m
 unfolding exprOf test
 by-pred zero s env m x h = h
 by-pred (suc l) s env m x h = rw (sub-one, ne-eqb (suc l) 0 (λ e. omega arith)) at h
 
-pub by-explicit : (l : ℕ) (s env : List ℕ) (m x : Mach)
-    → x ≡ paidBy (λ e. test (eqb l 0) (λ _. halts (withSt e m)) (λ _. typedBy (exprOf (l - 1) s env) s (withSt e m))) m → x ≡ explicitOf l s env m
-unfolding explicitOf test
-by-explicit zero s env m x h = h
-by-explicit (suc l) s env m x h = rw (sub-one, ne-eqb (suc l) 0 (λ e. omega arith)) at h
+-- ---- a match on a head
+pub expr-wrong : (X : Place → Mach) (f : ExprHead → Mach) (h : ExprAt) (m x : Mach) → h ≡ EA.Wrong → x ≡ halts m → x ≡ exprBy X f h m
+unfolding exprBy
+expr-wrong X f h m x e q = rw e q
+
+pub expr-explicit : (X : Place → Mach) (f : ExprHead → Mach) (h : ExprAt) (g : ExprHead) (p : Place) (m x : Mach) → h ≡ EA.Is g → g ≡ Explicit p → x ≡ X p → x ≡ exprBy X f h m
+unfolding exprBy
+expr-explicit X f h g p m x e d q = rw (e, d) q
+
+owned-is : (X : Place → Mach) (f : ExprHead → Mach) (g : ExprHead) (m : Mach) → OneOf (0 ∷ 1 ∷ 2 ∷ 3 ∷ 4 ∷ 5 ∷ 6 ∷ 7 ∷ 8 ∷ 9 ∷ 10 ∷ []) (tagOf the-type g) → exprBy X f (EA.Is g) m ≡ f g
+unfolding exprBy
+owned-is X f (Free x e) m k = refl
+owned-is X f (Bound i e) m k = refl
+owned-is X f (Literal e) m k = refl
+owned-is X f (Atomic o e) m k = refl
+owned-is X f (Extension n e) m k = refl
+owned-is X f (Truth e) m k = refl
+owned-is X f (Binary o e) m k = refl
+owned-is X f (Associative o n e) m k = refl
+owned-is X f (Unary o e) m k = refl
+owned-is X f (Quantified o n e) m k = refl
+owned-is X f (Ascribed e) m k = refl
+owned-is X f (Explicit e) m k = absurd (miss (0 ∷ 1 ∷ 2 ∷ 3 ∷ 4 ∷ 5 ∷ 6 ∷ 7 ∷ 8 ∷ 9 ∷ 10 ∷ []) 11 tt k)
+
+pub expr-owned : (X : Place → Mach) (f : ExprHead → Mach) (h : ExprAt) (g : ExprHead) (m x : Mach) → h ≡ EA.Is g → OneOf (0 ∷ 1 ∷ 2 ∷ 3 ∷ 4 ∷ 5 ∷ 6 ∷ 7 ∷ 8 ∷ 9 ∷ 10 ∷ []) (tagOf the-type g) → x ≡ f g → x ≡ exprBy X f h m
+expr-owned X f h g m x e k q = q ∙ sym (owned-is X f g m k) ∙ ap (λ (u : ExprAt). exprBy X f u m) (sym e)
+
+pub pred-wrong : (f : PredHead → Mach) (h : PredAt) (m x : Mach) → h ≡ PA.Wrong → x ≡ halts m → x ≡ predBy f h m
+unfolding predBy
+pred-wrong f h m x e q = rw e q
+
+pub pred-is : (f : PredHead → Mach) (h : PredAt) (g : PredHead) (m x : Mach) → h ≡ PA.Is g → x ≡ f g → x ≡ predBy f h m
+unfolding predBy
+pred-is f h g m x e q = rw e q
+
+pub by-body : (E P : Mach → Mach) (s env : List ℕ) (h g : ExprHead) (m x : Mach) → h ≡ g → x ≡ bodyBy E P s env g m → x ≡ bodyBy E P s env h m
+by-body E P s env h g m x e q = q ∙ ap (λ (u : ExprHead). bodyBy E P s env u m) (sym e)
+
+pub by-pred-body : (E P : Mach → Mach) (s env : List ℕ) (h g : PredHead) (m x : Mach) → h ≡ g → x ≡ predBodyBy E P s env g m → x ≡ predBodyBy E P s env h m
+by-pred-body E P s env h g m x e q = q ∙ ap (λ (u : PredHead). predBodyBy E P s env u m) (sym e)
+
+-- ---- a match on the root's byte, and on an assignment's count
+pub root-none : (s env : List ℕ) (b : Byte) (m x : Mach) → b ≡ Missing → x ≡ halts m → x ≡ rootBy s env b m
+unfolding rootBy
+root-none s env b m x e q = rw e q
+
+pub root-is : (s env : List ℕ) (b : Byte) (k : ℕ) (p : Place) (m x : Mach) → b ≡ Of k p
+    → x ≡ test (ltb k 0x20) (λ _. exprOf levels s env m) (λ _. test (ltb k 0x30) (λ _. predOf levels s env m) (λ _. then (fewAt (reach s) p) λ n. assignmentBy s env k n m))
+    → x ≡ rootBy s env b m
+unfolding rootBy
+root-is s env b k p m x e q = rw e q
+
+pub assignment-none : (s env : List ℕ) (k : ℕ) (b : Byte) (m x : Mach) → b ≡ Missing → x ≡ halts m → x ≡ assignmentBy s env k b m
+unfolding assignmentBy
+assignment-none s env k b m x e q = rw e q
+
+pub assignment-is : (s env : List ℕ) (k : ℕ) (b : Byte) (n : ℕ) (p : Place) (m x : Mach) → b ≡ Of n p
+    → x ≡ then (paidOf (m .st)) (λ v. then (placedOf (p .0) v) λ w. assignedBy s env k n (m .st .at .0) (withSt w m))
+    → x ≡ assignmentBy s env k b m
+unfolding assignmentBy
+assignment-is s env k b n p m x e q = rw e q
 
 -- ---- a step taken n times
 pub times-none : (f : Mach → Mach) (n : ℕ) (m : Mach) → n ≡ 0 → timesOf f n m ≡ m

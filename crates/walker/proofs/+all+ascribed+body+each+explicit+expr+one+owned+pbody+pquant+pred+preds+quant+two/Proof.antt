@@ -1,4 +1,13 @@
-use Prim.Native.Nat.{ℕ, _<_}
+use mathlib.Core.Path.{_≡_, refl, sym, _∙_}
+use native.Mathlib.Omega.{arith}
+use Rattle.machine.specs.Forms.{step, yes-eq, no-eq}
+use lib.ListN.{length}
+use Rattle.machine.specs.Machine.{mach}
+use Rattle.machine.specs.Types.{timesOf}
+use Rattle.walker.specs.Walk.{paidBy, ownedBy, enteredBy, typedBy, ascribedBy, bodyBy, predBodyBy, oneBy, twoBy, allBy, childBy, childrenBy, quantBy, predQuantBy, exprOf, predOf}
+use Rattle.walker.proofs.Laws.{by-expr, by-owned, by-explicit, by-pred, expr-wrong, expr-explicit, expr-owned, pred-wrong, pred-is, by-body, by-pred-body, times-none, by-times, children-end, children-more}
+use borrow.Author.Needs.{needs}
+use Prim.Native.Nat.{ℕ, _+_, _*_, _<_}
 use borrow.Fn.Kinds.{In}
 use borrow.Fn.PlainCycle.{Measures, is, falls, and}
 use Rattle.walker.proofs.all.Reads as all
@@ -78,46 +87,46 @@ use Rattle.walker.proofs.+all+ascribed+body+each+explicit+expr+one+owne
 }
 
 abbrev μ-all : Measures 4 all-kinds.ps ℕ
-μ-all κs a = ?
+μ-all κs a = a .1 .1 .1 .1 .1 .0 * 7 + 4
 
 abbrev μ-ascribed : Measures 4 ascribed-kinds.ps ℕ
-μ-ascribed κs a = ?
+μ-ascribed κs a = a .1 .1 .1 .1 .1 .0 * 7 + 2
 
 abbrev μ-body : Measures 4 body-kinds.ps ℕ
-μ-body κs a = ?
+μ-body κs a = a .1 .1 .1 .1 .1 .0 * 7 + 6
 
 abbrev μ-each : Measures 4 each-kinds.ps ℕ
-μ-each κs a = ?
+μ-each κs a = a .1 .1 .1 .1 .1 .0 * 7 + 3
 
 abbrev μ-explicit : Measures 4 explicit-kinds.ps ℕ
-μ-explicit κs a = ?
+μ-explicit κs a = a .1 .1 .1 .1 .1 .0 * 7 + 0
 
 abbrev μ-expr : Measures 4 expr-kinds.ps ℕ
-μ-expr κs a = ?
+μ-expr κs a = a .1 .1 .1 .1 .1 .0 * 7 + 1
 
 abbrev μ-one : Measures 4 one-kinds.ps ℕ
-μ-one κs a = ?
+μ-one κs a = a .1 .1 .1 .1 .1 .0 * 7 + 2
 
 abbrev μ-owned : Measures 4 owned-kinds.ps ℕ
-μ-owned κs a = ?
+μ-owned κs a = a .1 .1 .1 .1 .1 .0 * 7 + 0
 
 abbrev μ-pbody : Measures 4 pbody-kinds.ps ℕ
-μ-pbody κs a = ?
+μ-pbody κs a = a .1 .1 .1 .1 .1 .0 * 7 + 6
 
 abbrev μ-pquant : Measures 4 pquant-kinds.ps ℕ
-μ-pquant κs a = ?
+μ-pquant κs a = a .1 .1 .1 .1 .1 .0 * 7 + 2
 
 abbrev μ-pred : Measures 4 pred-kinds.ps ℕ
-μ-pred κs a = ?
+μ-pred κs a = a .1 .1 .1 .1 .1 .0 * 7 + 1
 
 abbrev μ-preds : Measures 4 preds-kinds.ps ℕ
-μ-preds κs a = ?
+μ-preds κs a = a .1 .1 .1 .1 .1 .0 * 7 + 2
 
 abbrev μ-quant : Measures 4 quant-kinds.ps ℕ
-μ-quant κs a = ?
+μ-quant κs a = a .1 .1 .1 .1 .1 .0 * 7 + 4
 
 abbrev μ-two : Measures 4 two-kinds.ps ℕ
-μ-two κs a = ?
+μ-two κs a = a .1 .1 .1 .1 .1 .0 * 7 + 2
 
 abbrev all-at : ℕ → In 4 all-kinds.ps
 all-at t = and 4 all-kinds.ps (is 4 all-kinds.ps μ-all t) all.Pre
@@ -205,5744 +214,834 @@ two-at t = and 4 two-kinds.ps (is 4 two-kinds.ps μ-two t) two.Pre
 abbrev two-below : ℕ → In 4 two-kinds.ps
 two-below t = and 4 two-kinds.ps (falls 4 two-kinds.ps _<_ μ-two t) two.Pre
 
--- src/lib.rt:287:9
-all-played-with-requires : (t : ℕ) → all-lts.Need-played-with-requires (
-  played-with-reads.Asked,
-  played-with-reads.Learnt,
-  play-reads.Asked,
-  play-reads.Learnt,
-  each-below t,
-  each.Post,
-) (all-at t) all.Post
-all-played-with-requires t c κs = ?
-
--- src/lib.rt:288:9
-all-play-requires : (t : ℕ) → all-lts.Need-play-requires (
-  played-with-reads.Asked,
-  played-with-reads.Learnt,
-  play-reads.Asked,
-  play-reads.Learnt,
-  each-below t,
-  each.Post,
-) (all-at t) all.Post
-all-play-requires t c κs = ?
-
--- src/lib.rt:290:9
-all-each-requires : (t : ℕ) → all-lts.Need-each-requires (
-  played-with-reads.Asked,
-  played-with-reads.Learnt,
-  play-reads.Asked,
-  play-reads.Learnt,
-  each-below t,
-  each.Post,
-) (all-at t) all.Post
-all-each-requires t c κs = ?
-
--- src/lib.rt:292:9
-all-played-with-requires-2 : (t : ℕ) → all-lts.Need-played-with-requires-2 (
-  played-with-reads.Asked,
-  played-with-reads.Learnt,
-  play-reads.Asked,
-  play-reads.Learnt,
-  each-below t,
-  each.Post,
-) (all-at t) all.Post
-all-played-with-requires-2 t c κs = ?
-
--- src/lib.rt:293:5
-all-play-requires-2 : (t : ℕ) → all-lts.Need-play-requires-2 (
-  played-with-reads.Asked,
-  played-with-reads.Learnt,
-  play-reads.Asked,
-  play-reads.Learnt,
-  each-below t,
-  each.Post,
-) (all-at t) all.Post
-all-play-requires-2 t c κs = ?
-
--- src/lib.rt:272:1
-all-same-length : (t : ℕ) → all-lts.Need-same-length (
-  played-with-reads.Asked,
-  played-with-reads.Learnt,
-  play-reads.Asked,
-  play-reads.Learnt,
-  each-below t,
-  each.Post,
-) (all-at t) all.Post
-all-same-length t c = ?
-
--- src/lib.rt:272:1
-all-same-length-2 : (t : ℕ) → all-lts.Need-same-length-2 (
-  played-with-reads.Asked,
-  played-with-reads.Learnt,
-  play-reads.Asked,
-  play-reads.Learnt,
-  each-below t,
-  each.Post,
-) (all-at t) all.Post
-all-same-length-2 t c = ?
-
--- src/lib.rt:272:1
-all-returns : (t : ℕ) → all-lts.Need-returns (
-  played-with-reads.Asked,
-  played-with-reads.Learnt,
-  play-reads.Asked,
-  play-reads.Learnt,
-  each-below t,
-  each.Post,
-) (all-at t) all.Post
-all-returns t c = ?
-
--- src/lib.rt:198:52
-ascribed-placed-requires : (t : ℕ) → ascribed-lts.Need-placed-requires (
-  placed-reads.Asked,
-  placed-reads.Learnt,
-  expr-below t,
-  expr.Post,
-  ascription-reads.Asked,
-  ascription-reads.Learnt,
-  gave-reads.Asked,
-  gave-reads.Learnt,
-) (ascribed-at t) ascribed.Post
-ascribed-placed-requires t c κs = ?
-
--- src/lib.rt:198:9
-ascribed-expr-requires : (t : ℕ) → ascribed-lts.Need-expr-requires (
-  placed-reads.Asked,
-  placed-reads.Learnt,
-  expr-below t,
-  expr.Post,
-  ascription-reads.Asked,
-  ascription-reads.Learnt,
-  gave-reads.Asked,
-  gave-reads.Learnt,
-) (ascribed-at t) ascribed.Post
-ascribed-expr-requires t c κs = ?
-
--- src/lib.rt:200:9
-ascribed-ascription-requires : (t : ℕ) → ascribed-lts.Need-ascription-requires (
-  placed-reads.Asked,
-  placed-reads.Learnt,
-  expr-below t,
-  expr.Post,
-  ascription-reads.Asked,
-  ascription-reads.Learnt,
-  gave-reads.Asked,
-  gave-reads.Learnt,
-) (ascribed-at t) ascribed.Post
-ascribed-ascription-requires t c κs = ?
-
--- src/lib.rt:201:5
-ascribed-gave-requires : (t : ℕ) → ascribed-lts.Need-gave-requires (
-  placed-reads.Asked,
-  placed-reads.Learnt,
-  expr-below t,
-  expr.Post,
-  ascription-reads.Asked,
-  ascription-reads.Learnt,
-  gave-reads.Asked,
-  gave-reads.Learnt,
-) (ascribed-at t) ascribed.Post
-ascribed-gave-requires t c κs = ?
-
--- src/lib.rt:185:1
-ascribed-same-length : (t : ℕ) → ascribed-lts.Need-same-length (
-  placed-reads.Asked,
-  placed-reads.Learnt,
-  expr-below t,
-  expr.Post,
-  ascription-reads.Asked,
-  ascription-reads.Learnt,
-  gave-reads.Asked,
-  gave-reads.Learnt,
-) (ascribed-at t) ascribed.Post
-ascribed-same-length t c = ?
-
--- src/lib.rt:185:1
-ascribed-same-length-2 : (t : ℕ) → ascribed-lts.Need-same-length-2 (
-  placed-reads.Asked,
-  placed-reads.Learnt,
-  expr-below t,
-  expr.Post,
-  ascription-reads.Asked,
-  ascription-reads.Learnt,
-  gave-reads.Asked,
-  gave-reads.Learnt,
-) (ascribed-at t) ascribed.Post
-ascribed-same-length-2 t c = ?
-
--- src/lib.rt:185:1
-ascribed-returns : (t : ℕ) → ascribed-lts.Need-returns (
-  placed-reads.Asked,
-  placed-reads.Learnt,
-  expr-below t,
-  expr.Post,
-  ascription-reads.Asked,
-  ascription-reads.Learnt,
-  gave-reads.Asked,
-  gave-reads.Learnt,
-) (ascribed-at t) ascribed.Post
-ascribed-returns t c = ?
-
--- src/lib.rt:146:24
-body-enum-known-h : (t : ℕ) → body-lts.Need-enum-known-h (
-  placed-reads.Asked,
-  placed-reads.Learnt,
-  free-identifier-reads.Asked,
-  free-identifier-reads.Learnt,
-  bound-identifier-reads.Asked,
-  bound-identifier-reads.Learnt,
-  make-reads.Asked,
-  make-reads.Learnt,
-  check-atomic-reads.Asked,
-  check-atomic-reads.Learnt,
-  played-with-reads.Asked,
-  played-with-reads.Learnt,
-  play-reads.Asked,
-  play-reads.Learnt,
-  all-below t,
-  all.Post,
-  pred-below t,
-  pred.Post,
-  check-binary-reads.Asked,
-  check-binary-reads.Learnt,
-  two-below t,
-  two.Post,
-  check-associative-reads.Asked,
-  check-associative-reads.Learnt,
-  check-unary-reads.Asked,
-  check-unary-reads.Learnt,
-  one-below t,
-  one.Post,
-  quant-below t,
-  quant.Post,
-  ascribed-below t,
-  ascribed.Post,
-  stopped-reads.Asked,
-  stopped-reads.Learnt,
-) (body-at t) body.Post
-body-enum-known-h t c = ?
-
--- src/lib.rt:147:62
-body-placed-requires : (t : ℕ) → body-lts.Need-placed-requires (
-  placed-reads.Asked,
-  placed-reads.Learnt,
-  free-identifier-reads.Asked,
-  free-identifier-reads.Learnt,
-  bound-identifier-reads.Asked,
-  bound-identifier-reads.Learnt,
-  make-reads.Asked,
-  make-reads.Learnt,
-  check-atomic-reads.Asked,
-  check-atomic-reads.Learnt,
-  played-with-reads.Asked,
-  played-with-reads.Learnt,
-  play-reads.Asked,
-  play-reads.Learnt,
-  all-below t,
-  all.Post,
-  pred-below t,
-  pred.Post,
-  check-binary-reads.Asked,
-  check-binary-reads.Learnt,
-  two-below t,
-  two.Post,
-  check-associative-reads.Asked,
-  check-associative-reads.Learnt,
-  check-unary-reads.Asked,
-  check-unary-reads.Learnt,
-  one-below t,
-  one.Post,
-  quant-below t,
-  quant.Post,
-  ascribed-below t,
-  ascribed.Post,
-  stopped-reads.Asked,
-  stopped-reads.Learnt,
-) (body-at t) body.Post
-body-placed-requires t c κs = ?
-
--- src/lib.rt:147:13
-body-free-identifier-requires : (t : ℕ) → body-lts.Need-free-identifier-requires (
-  placed-reads.Asked,
-  placed-reads.Learnt,
-  free-identifier-reads.Asked,
-  free-identifier-reads.Learnt,
-  bound-identifier-reads.Asked,
-  bound-identifier-reads.Learnt,
-  make-reads.Asked,
-  make-reads.Learnt,
-  check-atomic-reads.Asked,
-  check-atomic-reads.Learnt,
-  played-with-reads.Asked,
-  played-with-reads.Learnt,
-  play-reads.Asked,
-  play-reads.Learnt,
-  all-below t,
-  all.Post,
-  pred-below t,
-  pred.Post,
-  check-binary-reads.Asked,
-  check-binary-reads.Learnt,
-  two-below t,
-  two.Post,
-  check-associative-reads.Asked,
-  check-associative-reads.Learnt,
-  check-unary-reads.Asked,
-  check-unary-reads.Learnt,
-  one-below t,
-  one.Post,
-  quant-below t,
-  quant.Post,
-  ascribed-below t,
-  ascribed.Post,
-  stopped-reads.Asked,
-  stopped-reads.Learnt,
-) (body-at t) body.Post
-body-free-identifier-requires t c κs = ?
-
--- src/lib.rt:149:25
-body-enum-known-h-2 : (t : ℕ) → body-lts.Need-enum-known-h-2 (
-  placed-reads.Asked,
-  placed-reads.Learnt,
-  free-identifier-reads.Asked,
-  free-identifier-reads.Learnt,
-  bound-identifier-reads.Asked,
-  bound-identifier-reads.Learnt,
-  make-reads.Asked,
-  make-reads.Learnt,
-  check-atomic-reads.Asked,
-  check-atomic-reads.Learnt,
-  played-with-reads.Asked,
-  played-with-reads.Learnt,
-  play-reads.Asked,
-  play-reads.Learnt,
-  all-below t,
-  all.Post,
-  pred-below t,
-  pred.Post,
-  check-binary-reads.Asked,
-  check-binary-reads.Learnt,
-  two-below t,
-  two.Post,
-  check-associative-reads.Asked,
-  check-associative-reads.Learnt,
-  check-unary-reads.Asked,
-  check-unary-reads.Learnt,
-  one-below t,
-  one.Post,
-  quant-below t,
-  quant.Post,
-  ascribed-below t,
-  ascribed.Post,
-  stopped-reads.Asked,
-  stopped-reads.Learnt,
-) (body-at t) body.Post
-body-enum-known-h-2 t c = ?
-
--- src/lib.rt:150:25
-body-cast-index : (t : ℕ) → body-lts.Need-cast-index (
-  placed-reads.Asked,
-  placed-reads.Learnt,
-  free-identifier-reads.Asked,
-  free-identifier-reads.Learnt,
-  bound-identifier-reads.Asked,
-  bound-identifier-reads.Learnt,
-  make-reads.Asked,
-  make-reads.Learnt,
-  check-atomic-reads.Asked,
-  check-atomic-reads.Learnt,
-  played-with-reads.Asked,
-  played-with-reads.Learnt,
-  play-reads.Asked,
-  play-reads.Learnt,
-  all-below t,
-  all.Post,
-  pred-below t,
-  pred.Post,
-  check-binary-reads.Asked,
-  check-binary-reads.Learnt,
-  two-below t,
-  two.Post,
-  check-associative-reads.Asked,
-  check-associative-reads.Learnt,
-  check-unary-reads.Asked,
-  check-unary-reads.Learnt,
-  one-below t,
-  one.Post,
-  quant-below t,
-  quant.Post,
-  ascribed-below t,
-  ascribed.Post,
-  stopped-reads.Asked,
-  stopped-reads.Learnt,
-) (body-at t) body.Post
-body-cast-index t c = ?
-
--- src/lib.rt:151:70
-body-placed-requires-2 : (t : ℕ) → body-lts.Need-placed-requires-2 (
-  placed-reads.Asked,
-  placed-reads.Learnt,
-  free-identifier-reads.Asked,
-  free-identifier-reads.Learnt,
-  bound-identifier-reads.Asked,
-  bound-identifier-reads.Learnt,
-  make-reads.Asked,
-  make-reads.Learnt,
-  check-atomic-reads.Asked,
-  check-atomic-reads.Learnt,
-  played-with-reads.Asked,
-  played-with-reads.Learnt,
-  play-reads.Asked,
-  play-reads.Learnt,
-  all-below t,
-  all.Post,
-  pred-below t,
-  pred.Post,
-  check-binary-reads.Asked,
-  check-binary-reads.Learnt,
-  two-below t,
-  two.Post,
-  check-associative-reads.Asked,
-  check-associative-reads.Learnt,
-  check-unary-reads.Asked,
-  check-unary-reads.Learnt,
-  one-below t,
-  one.Post,
-  quant-below t,
-  quant.Post,
-  ascribed-below t,
-  ascribed.Post,
-  stopped-reads.Asked,
-  stopped-reads.Learnt,
-) (body-at t) body.Post
-body-placed-requires-2 t c κs = ?
-
--- src/lib.rt:151:13
-body-bound-identifier-requires : (t : ℕ) → body-lts.Need-bound-identifier-requires (
-  placed-reads.Asked,
-  placed-reads.Learnt,
-  free-identifier-reads.Asked,
-  free-identifier-reads.Learnt,
-  bound-identifier-reads.Asked,
-  bound-identifier-reads.Learnt,
-  make-reads.Asked,
-  make-reads.Learnt,
-  check-atomic-reads.Asked,
-  check-atomic-reads.Learnt,
-  played-with-reads.Asked,
-  played-with-reads.Learnt,
-  play-reads.Asked,
-  play-reads.Learnt,
-  all-below t,
-  all.Post,
-  pred-below t,
-  pred.Post,
-  check-binary-reads.Asked,
-  check-binary-reads.Learnt,
-  two-below t,
-  two.Post,
-  check-associative-reads.Asked,
-  check-associative-reads.Learnt,
-  check-unary-reads.Asked,
-  check-unary-reads.Learnt,
-  one-below t,
-  one.Post,
-  quant-below t,
-  quant.Post,
-  ascribed-below t,
-  ascribed.Post,
-  stopped-reads.Asked,
-  stopped-reads.Learnt,
-) (body-at t) body.Post
-body-bound-identifier-requires t c κs = ?
-
--- src/lib.rt:153:27
-body-enum-known-h-3 : (t : ℕ) → body-lts.Need-enum-known-h-3 (
-  placed-reads.Asked,
-  placed-reads.Learnt,
-  free-identifier-reads.Asked,
-  free-identifier-reads.Learnt,
-  bound-identifier-reads.Asked,
-  bound-identifier-reads.Learnt,
-  make-reads.Asked,
-  make-reads.Learnt,
-  check-atomic-reads.Asked,
-  check-atomic-reads.Learnt,
-  played-with-reads.Asked,
-  played-with-reads.Learnt,
-  play-reads.Asked,
-  play-reads.Learnt,
-  all-below t,
-  all.Post,
-  pred-below t,
-  pred.Post,
-  check-binary-reads.Asked,
-  check-binary-reads.Learnt,
-  two-below t,
-  two.Post,
-  check-associative-reads.Asked,
-  check-associative-reads.Learnt,
-  check-unary-reads.Asked,
-  check-unary-reads.Learnt,
-  one-below t,
-  one.Post,
-  quant-below t,
-  quant.Post,
-  ascribed-below t,
-  ascribed.Post,
-  stopped-reads.Asked,
-  stopped-reads.Learnt,
-) (body-at t) body.Post
-body-enum-known-h-3 t c = ?
-
--- src/lib.rt:153:71
-body-placed-requires-3 : (t : ℕ) → body-lts.Need-placed-requires-3 (
-  placed-reads.Asked,
-  placed-reads.Learnt,
-  free-identifier-reads.Asked,
-  free-identifier-reads.Learnt,
-  bound-identifier-reads.Asked,
-  bound-identifier-reads.Learnt,
-  make-reads.Asked,
-  make-reads.Learnt,
-  check-atomic-reads.Asked,
-  check-atomic-reads.Learnt,
-  played-with-reads.Asked,
-  played-with-reads.Learnt,
-  play-reads.Asked,
-  play-reads.Learnt,
-  all-below t,
-  all.Post,
-  pred-below t,
-  pred.Post,
-  check-binary-reads.Asked,
-  check-binary-reads.Learnt,
-  two-below t,
-  two.Post,
-  check-associative-reads.Asked,
-  check-associative-reads.Learnt,
-  check-unary-reads.Asked,
-  check-unary-reads.Learnt,
-  one-below t,
-  one.Post,
-  quant-below t,
-  quant.Post,
-  ascribed-below t,
-  ascribed.Post,
-  stopped-reads.Asked,
-  stopped-reads.Learnt,
-) (body-at t) body.Post
-body-placed-requires-3 t c κs = ?
-
--- src/lib.rt:153:33
-body-make-requires : (t : ℕ) → body-lts.Need-make-requires (
-  placed-reads.Asked,
-  placed-reads.Learnt,
-  free-identifier-reads.Asked,
-  free-identifier-reads.Learnt,
-  bound-identifier-reads.Asked,
-  bound-identifier-reads.Learnt,
-  make-reads.Asked,
-  make-reads.Learnt,
-  check-atomic-reads.Asked,
-  check-atomic-reads.Learnt,
-  played-with-reads.Asked,
-  played-with-reads.Learnt,
-  play-reads.Asked,
-  play-reads.Learnt,
-  all-below t,
-  all.Post,
-  pred-below t,
-  pred.Post,
-  check-binary-reads.Asked,
-  check-binary-reads.Learnt,
-  two-below t,
-  two.Post,
-  check-associative-reads.Asked,
-  check-associative-reads.Learnt,
-  check-unary-reads.Asked,
-  check-unary-reads.Learnt,
-  one-below t,
-  one.Post,
-  quant-below t,
-  quant.Post,
-  ascribed-below t,
-  ascribed.Post,
-  stopped-reads.Asked,
-  stopped-reads.Learnt,
-) (body-at t) body.Post
-body-make-requires t c κs = ?
-
--- src/lib.rt:154:26
-body-enum-known-h-4 : (t : ℕ) → body-lts.Need-enum-known-h-4 (
-  placed-reads.Asked,
-  placed-reads.Learnt,
-  free-identifier-reads.Asked,
-  free-identifier-reads.Learnt,
-  bound-identifier-reads.Asked,
-  bound-identifier-reads.Learnt,
-  make-reads.Asked,
-  make-reads.Learnt,
-  check-atomic-reads.Asked,
-  check-atomic-reads.Learnt,
-  played-with-reads.Asked,
-  played-with-reads.Learnt,
-  play-reads.Asked,
-  play-reads.Learnt,
-  all-below t,
-  all.Post,
-  pred-below t,
-  pred.Post,
-  check-binary-reads.Asked,
-  check-binary-reads.Learnt,
-  two-below t,
-  two.Post,
-  check-associative-reads.Asked,
-  check-associative-reads.Learnt,
-  check-unary-reads.Asked,
-  check-unary-reads.Learnt,
-  one-below t,
-  one.Post,
-  quant-below t,
-  quant.Post,
-  ascribed-below t,
-  ascribed.Post,
-  stopped-reads.Asked,
-  stopped-reads.Learnt,
-) (body-at t) body.Post
-body-enum-known-h-4 t c = ?
-
--- src/lib.rt:155:17
-body-check-atomic-requires : (t : ℕ) → body-lts.Need-check-atomic-requires (
-  placed-reads.Asked,
-  placed-reads.Learnt,
-  free-identifier-reads.Asked,
-  free-identifier-reads.Learnt,
-  bound-identifier-reads.Asked,
-  bound-identifier-reads.Learnt,
-  make-reads.Asked,
-  make-reads.Learnt,
-  check-atomic-reads.Asked,
-  check-atomic-reads.Learnt,
-  played-with-reads.Asked,
-  played-with-reads.Learnt,
-  play-reads.Asked,
-  play-reads.Learnt,
-  all-below t,
-  all.Post,
-  pred-below t,
-  pred.Post,
-  check-binary-reads.Asked,
-  check-binary-reads.Learnt,
-  two-below t,
-  two.Post,
-  check-associative-reads.Asked,
-  check-associative-reads.Learnt,
-  check-unary-reads.Asked,
-  check-unary-reads.Learnt,
-  one-below t,
-  one.Post,
-  quant-below t,
-  quant.Post,
-  ascribed-below t,
-  ascribed.Post,
-  stopped-reads.Asked,
-  stopped-reads.Learnt,
-) (body-at t) body.Post
-body-check-atomic-requires t c κs = ?
-
--- src/lib.rt:156:17
-body-played-with-requires : (t : ℕ) → body-lts.Need-played-with-requires (
-  placed-reads.Asked,
-  placed-reads.Learnt,
-  free-identifier-reads.Asked,
-  free-identifier-reads.Learnt,
-  bound-identifier-reads.Asked,
-  bound-identifier-reads.Learnt,
-  make-reads.Asked,
-  make-reads.Learnt,
-  check-atomic-reads.Asked,
-  check-atomic-reads.Learnt,
-  played-with-reads.Asked,
-  played-with-reads.Learnt,
-  play-reads.Asked,
-  play-reads.Learnt,
-  all-below t,
-  all.Post,
-  pred-below t,
-  pred.Post,
-  check-binary-reads.Asked,
-  check-binary-reads.Learnt,
-  two-below t,
-  two.Post,
-  check-associative-reads.Asked,
-  check-associative-reads.Learnt,
-  check-unary-reads.Asked,
-  check-unary-reads.Learnt,
-  one-below t,
-  one.Post,
-  quant-below t,
-  quant.Post,
-  ascribed-below t,
-  ascribed.Post,
-  stopped-reads.Asked,
-  stopped-reads.Learnt,
-) (body-at t) body.Post
-body-played-with-requires t c κs = ?
-
--- src/lib.rt:157:53
-body-placed-requires-4 : (t : ℕ) → body-lts.Need-placed-requires-4 (
-  placed-reads.Asked,
-  placed-reads.Learnt,
-  free-identifier-reads.Asked,
-  free-identifier-reads.Learnt,
-  bound-identifier-reads.Asked,
-  bound-identifier-reads.Learnt,
-  make-reads.Asked,
-  make-reads.Learnt,
-  check-atomic-reads.Asked,
-  check-atomic-reads.Learnt,
-  played-with-reads.Asked,
-  played-with-reads.Learnt,
-  play-reads.Asked,
-  play-reads.Learnt,
-  all-below t,
-  all.Post,
-  pred-below t,
-  pred.Post,
-  check-binary-reads.Asked,
-  check-binary-reads.Learnt,
-  two-below t,
-  two.Post,
-  check-associative-reads.Asked,
-  check-associative-reads.Learnt,
-  check-unary-reads.Asked,
-  check-unary-reads.Learnt,
-  one-below t,
-  one.Post,
-  quant-below t,
-  quant.Post,
-  ascribed-below t,
-  ascribed.Post,
-  stopped-reads.Asked,
-  stopped-reads.Learnt,
-) (body-at t) body.Post
-body-placed-requires-4 t c κs = ?
-
--- src/lib.rt:157:13
-body-play-requires : (t : ℕ) → body-lts.Need-play-requires (
-  placed-reads.Asked,
-  placed-reads.Learnt,
-  free-identifier-reads.Asked,
-  free-identifier-reads.Learnt,
-  bound-identifier-reads.Asked,
-  bound-identifier-reads.Learnt,
-  make-reads.Asked,
-  make-reads.Learnt,
-  check-atomic-reads.Asked,
-  check-atomic-reads.Learnt,
-  played-with-reads.Asked,
-  played-with-reads.Learnt,
-  play-reads.Asked,
-  play-reads.Learnt,
-  all-below t,
-  all.Post,
-  pred-below t,
-  pred.Post,
-  check-binary-reads.Asked,
-  check-binary-reads.Learnt,
-  two-below t,
-  two.Post,
-  check-associative-reads.Asked,
-  check-associative-reads.Learnt,
-  check-unary-reads.Asked,
-  check-unary-reads.Learnt,
-  one-below t,
-  one.Post,
-  quant-below t,
-  quant.Post,
-  ascribed-below t,
-  ascribed.Post,
-  stopped-reads.Asked,
-  stopped-reads.Learnt,
-) (body-at t) body.Post
-body-play-requires t c κs = ?
-
--- src/lib.rt:159:29
-body-enum-known-h-5 : (t : ℕ) → body-lts.Need-enum-known-h-5 (
-  placed-reads.Asked,
-  placed-reads.Learnt,
-  free-identifier-reads.Asked,
-  free-identifier-reads.Learnt,
-  bound-identifier-reads.Asked,
-  bound-identifier-reads.Learnt,
-  make-reads.Asked,
-  make-reads.Learnt,
-  check-atomic-reads.Asked,
-  check-atomic-reads.Learnt,
-  played-with-reads.Asked,
-  played-with-reads.Learnt,
-  play-reads.Asked,
-  play-reads.Learnt,
-  all-below t,
-  all.Post,
-  pred-below t,
-  pred.Post,
-  check-binary-reads.Asked,
-  check-binary-reads.Learnt,
-  two-below t,
-  two.Post,
-  check-associative-reads.Asked,
-  check-associative-reads.Learnt,
-  check-unary-reads.Asked,
-  check-unary-reads.Learnt,
-  one-below t,
-  one.Post,
-  quant-below t,
-  quant.Post,
-  ascribed-below t,
-  ascribed.Post,
-  stopped-reads.Asked,
-  stopped-reads.Learnt,
-) (body-at t) body.Post
-body-enum-known-h-5 t c = ?
-
--- src/lib.rt:160:65
-body-placed-requires-5 : (t : ℕ) → body-lts.Need-placed-requires-5 (
-  placed-reads.Asked,
-  placed-reads.Learnt,
-  free-identifier-reads.Asked,
-  free-identifier-reads.Learnt,
-  bound-identifier-reads.Asked,
-  bound-identifier-reads.Learnt,
-  make-reads.Asked,
-  make-reads.Learnt,
-  check-atomic-reads.Asked,
-  check-atomic-reads.Learnt,
-  played-with-reads.Asked,
-  played-with-reads.Learnt,
-  play-reads.Asked,
-  play-reads.Learnt,
-  all-below t,
-  all.Post,
-  pred-below t,
-  pred.Post,
-  check-binary-reads.Asked,
-  check-binary-reads.Learnt,
-  two-below t,
-  two.Post,
-  check-associative-reads.Asked,
-  check-associative-reads.Learnt,
-  check-unary-reads.Asked,
-  check-unary-reads.Learnt,
-  one-below t,
-  one.Post,
-  quant-below t,
-  quant.Post,
-  ascribed-below t,
-  ascribed.Post,
-  stopped-reads.Asked,
-  stopped-reads.Learnt,
-) (body-at t) body.Post
-body-placed-requires-5 t c κs = ?
-
--- src/lib.rt:160:13
-body-all-requires : (t : ℕ) → body-lts.Need-all-requires (
-  placed-reads.Asked,
-  placed-reads.Learnt,
-  free-identifier-reads.Asked,
-  free-identifier-reads.Learnt,
-  bound-identifier-reads.Asked,
-  bound-identifier-reads.Learnt,
-  make-reads.Asked,
-  make-reads.Learnt,
-  check-atomic-reads.Asked,
-  check-atomic-reads.Learnt,
-  played-with-reads.Asked,
-  played-with-reads.Learnt,
-  play-reads.Asked,
-  play-reads.Learnt,
-  all-below t,
-  all.Post,
-  pred-below t,
-  pred.Post,
-  check-binary-reads.Asked,
-  check-binary-reads.Learnt,
-  two-below t,
-  two.Post,
-  check-associative-reads.Asked,
-  check-associative-reads.Learnt,
-  check-unary-reads.Asked,
-  check-unary-reads.Learnt,
-  one-below t,
-  one.Post,
-  quant-below t,
-  quant.Post,
-  ascribed-below t,
-  ascribed.Post,
-  stopped-reads.Asked,
-  stopped-reads.Learnt,
-) (body-at t) body.Post
-body-all-requires t c κs = ?
-
--- src/lib.rt:162:25
-body-enum-known-h-6 : (t : ℕ) → body-lts.Need-enum-known-h-6 (
-  placed-reads.Asked,
-  placed-reads.Learnt,
-  free-identifier-reads.Asked,
-  free-identifier-reads.Learnt,
-  bound-identifier-reads.Asked,
-  bound-identifier-reads.Learnt,
-  make-reads.Asked,
-  make-reads.Learnt,
-  check-atomic-reads.Asked,
-  check-atomic-reads.Learnt,
-  played-with-reads.Asked,
-  played-with-reads.Learnt,
-  play-reads.Asked,
-  play-reads.Learnt,
-  all-below t,
-  all.Post,
-  pred-below t,
-  pred.Post,
-  check-binary-reads.Asked,
-  check-binary-reads.Learnt,
-  two-below t,
-  two.Post,
-  check-associative-reads.Asked,
-  check-associative-reads.Learnt,
-  check-unary-reads.Asked,
-  check-unary-reads.Learnt,
-  one-below t,
-  one.Post,
-  quant-below t,
-  quant.Post,
-  ascribed-below t,
-  ascribed.Post,
-  stopped-reads.Asked,
-  stopped-reads.Learnt,
-) (body-at t) body.Post
-body-enum-known-h-6 t c = ?
-
--- src/lib.rt:163:60
-body-placed-requires-6 : (t : ℕ) → body-lts.Need-placed-requires-6 (
-  placed-reads.Asked,
-  placed-reads.Learnt,
-  free-identifier-reads.Asked,
-  free-identifier-reads.Learnt,
-  bound-identifier-reads.Asked,
-  bound-identifier-reads.Learnt,
-  make-reads.Asked,
-  make-reads.Learnt,
-  check-atomic-reads.Asked,
-  check-atomic-reads.Learnt,
-  played-with-reads.Asked,
-  played-with-reads.Learnt,
-  play-reads.Asked,
-  play-reads.Learnt,
-  all-below t,
-  all.Post,
-  pred-below t,
-  pred.Post,
-  check-binary-reads.Asked,
-  check-binary-reads.Learnt,
-  two-below t,
-  two.Post,
-  check-associative-reads.Asked,
-  check-associative-reads.Learnt,
-  check-unary-reads.Asked,
-  check-unary-reads.Learnt,
-  one-below t,
-  one.Post,
-  quant-below t,
-  quant.Post,
-  ascribed-below t,
-  ascribed.Post,
-  stopped-reads.Asked,
-  stopped-reads.Learnt,
-) (body-at t) body.Post
-body-placed-requires-6 t c κs = ?
-
--- src/lib.rt:163:17
-body-pred-requires : (t : ℕ) → body-lts.Need-pred-requires (
-  placed-reads.Asked,
-  placed-reads.Learnt,
-  free-identifier-reads.Asked,
-  free-identifier-reads.Learnt,
-  bound-identifier-reads.Asked,
-  bound-identifier-reads.Learnt,
-  make-reads.Asked,
-  make-reads.Learnt,
-  check-atomic-reads.Asked,
-  check-atomic-reads.Learnt,
-  played-with-reads.Asked,
-  played-with-reads.Learnt,
-  play-reads.Asked,
-  play-reads.Learnt,
-  all-below t,
-  all.Post,
-  pred-below t,
-  pred.Post,
-  check-binary-reads.Asked,
-  check-binary-reads.Learnt,
-  two-below t,
-  two.Post,
-  check-associative-reads.Asked,
-  check-associative-reads.Learnt,
-  check-unary-reads.Asked,
-  check-unary-reads.Learnt,
-  one-below t,
-  one.Post,
-  quant-below t,
-  quant.Post,
-  ascribed-below t,
-  ascribed.Post,
-  stopped-reads.Asked,
-  stopped-reads.Learnt,
-) (body-at t) body.Post
-body-pred-requires t c κs = ?
-
--- src/lib.rt:164:13
-body-make-requires-2 : (t : ℕ) → body-lts.Need-make-requires-2 (
-  placed-reads.Asked,
-  placed-reads.Learnt,
-  free-identifier-reads.Asked,
-  free-identifier-reads.Learnt,
-  bound-identifier-reads.Asked,
-  bound-identifier-reads.Learnt,
-  make-reads.Asked,
-  make-reads.Learnt,
-  check-atomic-reads.Asked,
-  check-atomic-reads.Learnt,
-  played-with-reads.Asked,
-  played-with-reads.Learnt,
-  play-reads.Asked,
-  play-reads.Learnt,
-  all-below t,
-  all.Post,
-  pred-below t,
-  pred.Post,
-  check-binary-reads.Asked,
-  check-binary-reads.Learnt,
-  two-below t,
-  two.Post,
-  check-associative-reads.Asked,
-  check-associative-reads.Learnt,
-  check-unary-reads.Asked,
-  check-unary-reads.Learnt,
-  one-below t,
-  one.Post,
-  quant-below t,
-  quant.Post,
-  ascribed-below t,
-  ascribed.Post,
-  stopped-reads.Asked,
-  stopped-reads.Learnt,
-) (body-at t) body.Post
-body-make-requires-2 t c κs = ?
-
--- src/lib.rt:166:26
-body-enum-known-h-7 : (t : ℕ) → body-lts.Need-enum-known-h-7 (
-  placed-reads.Asked,
-  placed-reads.Learnt,
-  free-identifier-reads.Asked,
-  free-identifier-reads.Learnt,
-  bound-identifier-reads.Asked,
-  bound-identifier-reads.Learnt,
-  make-reads.Asked,
-  make-reads.Learnt,
-  check-atomic-reads.Asked,
-  check-atomic-reads.Learnt,
-  played-with-reads.Asked,
-  played-with-reads.Learnt,
-  play-reads.Asked,
-  play-reads.Learnt,
-  all-below t,
-  all.Post,
-  pred-below t,
-  pred.Post,
-  check-binary-reads.Asked,
-  check-binary-reads.Learnt,
-  two-below t,
-  two.Post,
-  check-associative-reads.Asked,
-  check-associative-reads.Learnt,
-  check-unary-reads.Asked,
-  check-unary-reads.Learnt,
-  one-below t,
-  one.Post,
-  quant-below t,
-  quant.Post,
-  ascribed-below t,
-  ascribed.Post,
-  stopped-reads.Asked,
-  stopped-reads.Learnt,
-) (body-at t) body.Post
-body-enum-known-h-7 t c = ?
-
--- src/lib.rt:167:17
-body-check-binary-requires : (t : ℕ) → body-lts.Need-check-binary-requires (
-  placed-reads.Asked,
-  placed-reads.Learnt,
-  free-identifier-reads.Asked,
-  free-identifier-reads.Learnt,
-  bound-identifier-reads.Asked,
-  bound-identifier-reads.Learnt,
-  make-reads.Asked,
-  make-reads.Learnt,
-  check-atomic-reads.Asked,
-  check-atomic-reads.Learnt,
-  played-with-reads.Asked,
-  played-with-reads.Learnt,
-  play-reads.Asked,
-  play-reads.Learnt,
-  all-below t,
-  all.Post,
-  pred-below t,
-  pred.Post,
-  check-binary-reads.Asked,
-  check-binary-reads.Learnt,
-  two-below t,
-  two.Post,
-  check-associative-reads.Asked,
-  check-associative-reads.Learnt,
-  check-unary-reads.Asked,
-  check-unary-reads.Learnt,
-  one-below t,
-  one.Post,
-  quant-below t,
-  quant.Post,
-  ascribed-below t,
-  ascribed.Post,
-  stopped-reads.Asked,
-  stopped-reads.Learnt,
-) (body-at t) body.Post
-body-check-binary-requires t c κs = ?
-
--- src/lib.rt:168:58
-body-placed-requires-7 : (t : ℕ) → body-lts.Need-placed-requires-7 (
-  placed-reads.Asked,
-  placed-reads.Learnt,
-  free-identifier-reads.Asked,
-  free-identifier-reads.Learnt,
-  bound-identifier-reads.Asked,
-  bound-identifier-reads.Learnt,
-  make-reads.Asked,
-  make-reads.Learnt,
-  check-atomic-reads.Asked,
-  check-atomic-reads.Learnt,
-  played-with-reads.Asked,
-  played-with-reads.Learnt,
-  play-reads.Asked,
-  play-reads.Learnt,
-  all-below t,
-  all.Post,
-  pred-below t,
-  pred.Post,
-  check-binary-reads.Asked,
-  check-binary-reads.Learnt,
-  two-below t,
-  two.Post,
-  check-associative-reads.Asked,
-  check-associative-reads.Learnt,
-  check-unary-reads.Asked,
-  check-unary-reads.Learnt,
-  one-below t,
-  one.Post,
-  quant-below t,
-  quant.Post,
-  ascribed-below t,
-  ascribed.Post,
-  stopped-reads.Asked,
-  stopped-reads.Learnt,
-) (body-at t) body.Post
-body-placed-requires-7 t c κs = ?
-
--- src/lib.rt:168:13
-body-two-requires : (t : ℕ) → body-lts.Need-two-requires (
-  placed-reads.Asked,
-  placed-reads.Learnt,
-  free-identifier-reads.Asked,
-  free-identifier-reads.Learnt,
-  bound-identifier-reads.Asked,
-  bound-identifier-reads.Learnt,
-  make-reads.Asked,
-  make-reads.Learnt,
-  check-atomic-reads.Asked,
-  check-atomic-reads.Learnt,
-  played-with-reads.Asked,
-  played-with-reads.Learnt,
-  play-reads.Asked,
-  play-reads.Learnt,
-  all-below t,
-  all.Post,
-  pred-below t,
-  pred.Post,
-  check-binary-reads.Asked,
-  check-binary-reads.Learnt,
-  two-below t,
-  two.Post,
-  check-associative-reads.Asked,
-  check-associative-reads.Learnt,
-  check-unary-reads.Asked,
-  check-unary-reads.Learnt,
-  one-below t,
-  one.Post,
-  quant-below t,
-  quant.Post,
-  ascribed-below t,
-  ascribed.Post,
-  stopped-reads.Asked,
-  stopped-reads.Learnt,
-) (body-at t) body.Post
-body-two-requires t c κs = ?
-
--- src/lib.rt:170:31
-body-enum-known-h-8 : (t : ℕ) → body-lts.Need-enum-known-h-8 (
-  placed-reads.Asked,
-  placed-reads.Learnt,
-  free-identifier-reads.Asked,
-  free-identifier-reads.Learnt,
-  bound-identifier-reads.Asked,
-  bound-identifier-reads.Learnt,
-  make-reads.Asked,
-  make-reads.Learnt,
-  check-atomic-reads.Asked,
-  check-atomic-reads.Learnt,
-  played-with-reads.Asked,
-  played-with-reads.Learnt,
-  play-reads.Asked,
-  play-reads.Learnt,
-  all-below t,
-  all.Post,
-  pred-below t,
-  pred.Post,
-  check-binary-reads.Asked,
-  check-binary-reads.Learnt,
-  two-below t,
-  two.Post,
-  check-associative-reads.Asked,
-  check-associative-reads.Learnt,
-  check-unary-reads.Asked,
-  check-unary-reads.Learnt,
-  one-below t,
-  one.Post,
-  quant-below t,
-  quant.Post,
-  ascribed-below t,
-  ascribed.Post,
-  stopped-reads.Asked,
-  stopped-reads.Learnt,
-) (body-at t) body.Post
-body-enum-known-h-8 t c = ?
-
--- src/lib.rt:171:17
-body-check-associative-requires : (t : ℕ) → body-lts.Need-check-associative-requires (
-  placed-reads.Asked,
-  placed-reads.Learnt,
-  free-identifier-reads.Asked,
-  free-identifier-reads.Learnt,
-  bound-identifier-reads.Asked,
-  bound-identifier-reads.Learnt,
-  make-reads.Asked,
-  make-reads.Learnt,
-  check-atomic-reads.Asked,
-  check-atomic-reads.Learnt,
-  played-with-reads.Asked,
-  played-with-reads.Learnt,
-  play-reads.Asked,
-  play-reads.Learnt,
-  all-below t,
-  all.Post,
-  pred-below t,
-  pred.Post,
-  check-binary-reads.Asked,
-  check-binary-reads.Learnt,
-  two-below t,
-  two.Post,
-  check-associative-reads.Asked,
-  check-associative-reads.Learnt,
-  check-unary-reads.Asked,
-  check-unary-reads.Learnt,
-  one-below t,
-  one.Post,
-  quant-below t,
-  quant.Post,
-  ascribed-below t,
-  ascribed.Post,
-  stopped-reads.Asked,
-  stopped-reads.Learnt,
-) (body-at t) body.Post
-body-check-associative-requires t c κs = ?
-
--- src/lib.rt:172:60
-body-placed-requires-8 : (t : ℕ) → body-lts.Need-placed-requires-8 (
-  placed-reads.Asked,
-  placed-reads.Learnt,
-  free-identifier-reads.Asked,
-  free-identifier-reads.Learnt,
-  bound-identifier-reads.Asked,
-  bound-identifier-reads.Learnt,
-  make-reads.Asked,
-  make-reads.Learnt,
-  check-atomic-reads.Asked,
-  check-atomic-reads.Learnt,
-  played-with-reads.Asked,
-  played-with-reads.Learnt,
-  play-reads.Asked,
-  play-reads.Learnt,
-  all-below t,
-  all.Post,
-  pred-below t,
-  pred.Post,
-  check-binary-reads.Asked,
-  check-binary-reads.Learnt,
-  two-below t,
-  two.Post,
-  check-associative-reads.Asked,
-  check-associative-reads.Learnt,
-  check-unary-reads.Asked,
-  check-unary-reads.Learnt,
-  one-below t,
-  one.Post,
-  quant-below t,
-  quant.Post,
-  ascribed-below t,
-  ascribed.Post,
-  stopped-reads.Asked,
-  stopped-reads.Learnt,
-) (body-at t) body.Post
-body-placed-requires-8 t c κs = ?
-
--- src/lib.rt:172:13
-body-all-requires-2 : (t : ℕ) → body-lts.Need-all-requires-2 (
-  placed-reads.Asked,
-  placed-reads.Learnt,
-  free-identifier-reads.Asked,
-  free-identifier-reads.Learnt,
-  bound-identifier-reads.Asked,
-  bound-identifier-reads.Learnt,
-  make-reads.Asked,
-  make-reads.Learnt,
-  check-atomic-reads.Asked,
-  check-atomic-reads.Learnt,
-  played-with-reads.Asked,
-  played-with-reads.Learnt,
-  play-reads.Asked,
-  play-reads.Learnt,
-  all-below t,
-  all.Post,
-  pred-below t,
-  pred.Post,
-  check-binary-reads.Asked,
-  check-binary-reads.Learnt,
-  two-below t,
-  two.Post,
-  check-associative-reads.Asked,
-  check-associative-reads.Learnt,
-  check-unary-reads.Asked,
-  check-unary-reads.Learnt,
-  one-below t,
-  one.Post,
-  quant-below t,
-  quant.Post,
-  ascribed-below t,
-  ascribed.Post,
-  stopped-reads.Asked,
-  stopped-reads.Learnt,
-) (body-at t) body.Post
-body-all-requires-2 t c κs = ?
-
--- src/lib.rt:174:25
-body-enum-known-h-9 : (t : ℕ) → body-lts.Need-enum-known-h-9 (
-  placed-reads.Asked,
-  placed-reads.Learnt,
-  free-identifier-reads.Asked,
-  free-identifier-reads.Learnt,
-  bound-identifier-reads.Asked,
-  bound-identifier-reads.Learnt,
-  make-reads.Asked,
-  make-reads.Learnt,
-  check-atomic-reads.Asked,
-  check-atomic-reads.Learnt,
-  played-with-reads.Asked,
-  played-with-reads.Learnt,
-  play-reads.Asked,
-  play-reads.Learnt,
-  all-below t,
-  all.Post,
-  pred-below t,
-  pred.Post,
-  check-binary-reads.Asked,
-  check-binary-reads.Learnt,
-  two-below t,
-  two.Post,
-  check-associative-reads.Asked,
-  check-associative-reads.Learnt,
-  check-unary-reads.Asked,
-  check-unary-reads.Learnt,
-  one-below t,
-  one.Post,
-  quant-below t,
-  quant.Post,
-  ascribed-below t,
-  ascribed.Post,
-  stopped-reads.Asked,
-  stopped-reads.Learnt,
-) (body-at t) body.Post
-body-enum-known-h-9 t c = ?
-
--- src/lib.rt:175:17
-body-check-unary-requires : (t : ℕ) → body-lts.Need-check-unary-requires (
-  placed-reads.Asked,
-  placed-reads.Learnt,
-  free-identifier-reads.Asked,
-  free-identifier-reads.Learnt,
-  bound-identifier-reads.Asked,
-  bound-identifier-reads.Learnt,
-  make-reads.Asked,
-  make-reads.Learnt,
-  check-atomic-reads.Asked,
-  check-atomic-reads.Learnt,
-  played-with-reads.Asked,
-  played-with-reads.Learnt,
-  play-reads.Asked,
-  play-reads.Learnt,
-  all-below t,
-  all.Post,
-  pred-below t,
-  pred.Post,
-  check-binary-reads.Asked,
-  check-binary-reads.Learnt,
-  two-below t,
-  two.Post,
-  check-associative-reads.Asked,
-  check-associative-reads.Learnt,
-  check-unary-reads.Asked,
-  check-unary-reads.Learnt,
-  one-below t,
-  one.Post,
-  quant-below t,
-  quant.Post,
-  ascribed-below t,
-  ascribed.Post,
-  stopped-reads.Asked,
-  stopped-reads.Learnt,
-) (body-at t) body.Post
-body-check-unary-requires t c κs = ?
-
--- src/lib.rt:176:58
-body-placed-requires-9 : (t : ℕ) → body-lts.Need-placed-requires-9 (
-  placed-reads.Asked,
-  placed-reads.Learnt,
-  free-identifier-reads.Asked,
-  free-identifier-reads.Learnt,
-  bound-identifier-reads.Asked,
-  bound-identifier-reads.Learnt,
-  make-reads.Asked,
-  make-reads.Learnt,
-  check-atomic-reads.Asked,
-  check-atomic-reads.Learnt,
-  played-with-reads.Asked,
-  played-with-reads.Learnt,
-  play-reads.Asked,
-  play-reads.Learnt,
-  all-below t,
-  all.Post,
-  pred-below t,
-  pred.Post,
-  check-binary-reads.Asked,
-  check-binary-reads.Learnt,
-  two-below t,
-  two.Post,
-  check-associative-reads.Asked,
-  check-associative-reads.Learnt,
-  check-unary-reads.Asked,
-  check-unary-reads.Learnt,
-  one-below t,
-  one.Post,
-  quant-below t,
-  quant.Post,
-  ascribed-below t,
-  ascribed.Post,
-  stopped-reads.Asked,
-  stopped-reads.Learnt,
-) (body-at t) body.Post
-body-placed-requires-9 t c κs = ?
-
--- src/lib.rt:176:13
-body-one-requires : (t : ℕ) → body-lts.Need-one-requires (
-  placed-reads.Asked,
-  placed-reads.Learnt,
-  free-identifier-reads.Asked,
-  free-identifier-reads.Learnt,
-  bound-identifier-reads.Asked,
-  bound-identifier-reads.Learnt,
-  make-reads.Asked,
-  make-reads.Learnt,
-  check-atomic-reads.Asked,
-  check-atomic-reads.Learnt,
-  played-with-reads.Asked,
-  played-with-reads.Learnt,
-  play-reads.Asked,
-  play-reads.Learnt,
-  all-below t,
-  all.Post,
-  pred-below t,
-  pred.Post,
-  check-binary-reads.Asked,
-  check-binary-reads.Learnt,
-  two-below t,
-  two.Post,
-  check-associative-reads.Asked,
-  check-associative-reads.Learnt,
-  check-unary-reads.Asked,
-  check-unary-reads.Learnt,
-  one-below t,
-  one.Post,
-  quant-below t,
-  quant.Post,
-  ascribed-below t,
-  ascribed.Post,
-  stopped-reads.Asked,
-  stopped-reads.Learnt,
-) (body-at t) body.Post
-body-one-requires t c κs = ?
-
--- src/lib.rt:178:30
-body-enum-known-h-10 : (t : ℕ) → body-lts.Need-enum-known-h-10 (
-  placed-reads.Asked,
-  placed-reads.Learnt,
-  free-identifier-reads.Asked,
-  free-identifier-reads.Learnt,
-  bound-identifier-reads.Asked,
-  bound-identifier-reads.Learnt,
-  make-reads.Asked,
-  make-reads.Learnt,
-  check-atomic-reads.Asked,
-  check-atomic-reads.Learnt,
-  played-with-reads.Asked,
-  played-with-reads.Learnt,
-  play-reads.Asked,
-  play-reads.Learnt,
-  all-below t,
-  all.Post,
-  pred-below t,
-  pred.Post,
-  check-binary-reads.Asked,
-  check-binary-reads.Learnt,
-  two-below t,
-  two.Post,
-  check-associative-reads.Asked,
-  check-associative-reads.Learnt,
-  check-unary-reads.Asked,
-  check-unary-reads.Learnt,
-  one-below t,
-  one.Post,
-  quant-below t,
-  quant.Post,
-  ascribed-below t,
-  ascribed.Post,
-  stopped-reads.Asked,
-  stopped-reads.Learnt,
-) (body-at t) body.Post
-body-enum-known-h-10 t c = ?
-
--- src/lib.rt:178:42
-body-quant-requires : (t : ℕ) → body-lts.Need-quant-requires (
-  placed-reads.Asked,
-  placed-reads.Learnt,
-  free-identifier-reads.Asked,
-  free-identifier-reads.Learnt,
-  bound-identifier-reads.Asked,
-  bound-identifier-reads.Learnt,
-  make-reads.Asked,
-  make-reads.Learnt,
-  check-atomic-reads.Asked,
-  check-atomic-reads.Learnt,
-  played-with-reads.Asked,
-  played-with-reads.Learnt,
-  play-reads.Asked,
-  play-reads.Learnt,
-  all-below t,
-  all.Post,
-  pred-below t,
-  pred.Post,
-  check-binary-reads.Asked,
-  check-binary-reads.Learnt,
-  two-below t,
-  two.Post,
-  check-associative-reads.Asked,
-  check-associative-reads.Learnt,
-  check-unary-reads.Asked,
-  check-unary-reads.Learnt,
-  one-below t,
-  one.Post,
-  quant-below t,
-  quant.Post,
-  ascribed-below t,
-  ascribed.Post,
-  stopped-reads.Asked,
-  stopped-reads.Learnt,
-) (body-at t) body.Post
-body-quant-requires t c κs = ?
-
--- src/lib.rt:179:28
-body-enum-known-h-11 : (t : ℕ) → body-lts.Need-enum-known-h-11 (
-  placed-reads.Asked,
-  placed-reads.Learnt,
-  free-identifier-reads.Asked,
-  free-identifier-reads.Learnt,
-  bound-identifier-reads.Asked,
-  bound-identifier-reads.Learnt,
-  make-reads.Asked,
-  make-reads.Learnt,
-  check-atomic-reads.Asked,
-  check-atomic-reads.Learnt,
-  played-with-reads.Asked,
-  played-with-reads.Learnt,
-  play-reads.Asked,
-  play-reads.Learnt,
-  all-below t,
-  all.Post,
-  pred-below t,
-  pred.Post,
-  check-binary-reads.Asked,
-  check-binary-reads.Learnt,
-  two-below t,
-  two.Post,
-  check-associative-reads.Asked,
-  check-associative-reads.Learnt,
-  check-unary-reads.Asked,
-  check-unary-reads.Learnt,
-  one-below t,
-  one.Post,
-  quant-below t,
-  quant.Post,
-  ascribed-below t,
-  ascribed.Post,
-  stopped-reads.Asked,
-  stopped-reads.Learnt,
-) (body-at t) body.Post
-body-enum-known-h-11 t c = ?
-
--- src/lib.rt:179:34
-body-ascribed-requires : (t : ℕ) → body-lts.Need-ascribed-requires (
-  placed-reads.Asked,
-  placed-reads.Learnt,
-  free-identifier-reads.Asked,
-  free-identifier-reads.Learnt,
-  bound-identifier-reads.Asked,
-  bound-identifier-reads.Learnt,
-  make-reads.Asked,
-  make-reads.Learnt,
-  check-atomic-reads.Asked,
-  check-atomic-reads.Learnt,
-  played-with-reads.Asked,
-  played-with-reads.Learnt,
-  play-reads.Asked,
-  play-reads.Learnt,
-  all-below t,
-  all.Post,
-  pred-below t,
-  pred.Post,
-  check-binary-reads.Asked,
-  check-binary-reads.Learnt,
-  two-below t,
-  two.Post,
-  check-associative-reads.Asked,
-  check-associative-reads.Learnt,
-  check-unary-reads.Asked,
-  check-unary-reads.Learnt,
-  one-below t,
-  one.Post,
-  quant-below t,
-  quant.Post,
-  ascribed-below t,
-  ascribed.Post,
-  stopped-reads.Asked,
-  stopped-reads.Learnt,
-) (body-at t) body.Post
-body-ascribed-requires t c κs = ?
-
--- src/lib.rt:180:34
-body-enum-told : (t : ℕ) → body-lts.Need-enum-told (
-  placed-reads.Asked,
-  placed-reads.Learnt,
-  free-identifier-reads.Asked,
-  free-identifier-reads.Learnt,
-  bound-identifier-reads.Asked,
-  bound-identifier-reads.Learnt,
-  make-reads.Asked,
-  make-reads.Learnt,
-  check-atomic-reads.Asked,
-  check-atomic-reads.Learnt,
-  played-with-reads.Asked,
-  played-with-reads.Learnt,
-  play-reads.Asked,
-  play-reads.Learnt,
-  all-below t,
-  all.Post,
-  pred-below t,
-  pred.Post,
-  check-binary-reads.Asked,
-  check-binary-reads.Learnt,
-  two-below t,
-  two.Post,
-  check-associative-reads.Asked,
-  check-associative-reads.Learnt,
-  check-unary-reads.Asked,
-  check-unary-reads.Learnt,
-  one-below t,
-  one.Post,
-  quant-below t,
-  quant.Post,
-  ascribed-below t,
-  ascribed.Post,
-  stopped-reads.Asked,
-  stopped-reads.Learnt,
-) (body-at t) body.Post
-body-enum-told t c = ?
-
--- src/lib.rt:180:34
-body-stopped-requires : (t : ℕ) → body-lts.Need-stopped-requires (
-  placed-reads.Asked,
-  placed-reads.Learnt,
-  free-identifier-reads.Asked,
-  free-identifier-reads.Learnt,
-  bound-identifier-reads.Asked,
-  bound-identifier-reads.Learnt,
-  make-reads.Asked,
-  make-reads.Learnt,
-  check-atomic-reads.Asked,
-  check-atomic-reads.Learnt,
-  played-with-reads.Asked,
-  played-with-reads.Learnt,
-  play-reads.Asked,
-  play-reads.Learnt,
-  all-below t,
-  all.Post,
-  pred-below t,
-  pred.Post,
-  check-binary-reads.Asked,
-  check-binary-reads.Learnt,
-  two-below t,
-  two.Post,
-  check-associative-reads.Asked,
-  check-associative-reads.Learnt,
-  check-unary-reads.Asked,
-  check-unary-reads.Learnt,
-  one-below t,
-  one.Post,
-  quant-below t,
-  quant.Post,
-  ascribed-below t,
-  ascribed.Post,
-  stopped-reads.Asked,
-  stopped-reads.Learnt,
-) (body-at t) body.Post
-body-stopped-requires t c κs = ?
-
--- src/lib.rt:132:1
-body-same-length : (t : ℕ) → body-lts.Need-same-length (
-  placed-reads.Asked,
-  placed-reads.Learnt,
-  free-identifier-reads.Asked,
-  free-identifier-reads.Learnt,
-  bound-identifier-reads.Asked,
-  bound-identifier-reads.Learnt,
-  make-reads.Asked,
-  make-reads.Learnt,
-  check-atomic-reads.Asked,
-  check-atomic-reads.Learnt,
-  played-with-reads.Asked,
-  played-with-reads.Learnt,
-  play-reads.Asked,
-  play-reads.Learnt,
-  all-below t,
-  all.Post,
-  pred-below t,
-  pred.Post,
-  check-binary-reads.Asked,
-  check-binary-reads.Learnt,
-  two-below t,
-  two.Post,
-  check-associative-reads.Asked,
-  check-associative-reads.Learnt,
-  check-unary-reads.Asked,
-  check-unary-reads.Learnt,
-  one-below t,
-  one.Post,
-  quant-below t,
-  quant.Post,
-  ascribed-below t,
-  ascribed.Post,
-  stopped-reads.Asked,
-  stopped-reads.Learnt,
-) (body-at t) body.Post
-body-same-length t c = ?
-
--- src/lib.rt:132:1
-body-returns : (t : ℕ) → body-lts.Need-returns (
-  placed-reads.Asked,
-  placed-reads.Learnt,
-  free-identifier-reads.Asked,
-  free-identifier-reads.Learnt,
-  bound-identifier-reads.Asked,
-  bound-identifier-reads.Learnt,
-  make-reads.Asked,
-  make-reads.Learnt,
-  check-atomic-reads.Asked,
-  check-atomic-reads.Learnt,
-  played-with-reads.Asked,
-  played-with-reads.Learnt,
-  play-reads.Asked,
-  play-reads.Learnt,
-  all-below t,
-  all.Post,
-  pred-below t,
-  pred.Post,
-  check-binary-reads.Asked,
-  check-binary-reads.Learnt,
-  two-below t,
-  two.Post,
-  check-associative-reads.Asked,
-  check-associative-reads.Learnt,
-  check-unary-reads.Asked,
-  check-unary-reads.Learnt,
-  one-below t,
-  one.Post,
-  quant-below t,
-  quant.Post,
-  ascribed-below t,
-  ascribed.Post,
-  stopped-reads.Asked,
-  stopped-reads.Learnt,
-) (body-at t) body.Post
-body-returns t c = ?
-
--- src/lib.rt:132:1
-body-same-length-2 : (t : ℕ) → body-lts.Need-same-length-2 (
-  placed-reads.Asked,
-  placed-reads.Learnt,
-  free-identifier-reads.Asked,
-  free-identifier-reads.Learnt,
-  bound-identifier-reads.Asked,
-  bound-identifier-reads.Learnt,
-  make-reads.Asked,
-  make-reads.Learnt,
-  check-atomic-reads.Asked,
-  check-atomic-reads.Learnt,
-  played-with-reads.Asked,
-  played-with-reads.Learnt,
-  play-reads.Asked,
-  play-reads.Learnt,
-  all-below t,
-  all.Post,
-  pred-below t,
-  pred.Post,
-  check-binary-reads.Asked,
-  check-binary-reads.Learnt,
-  two-below t,
-  two.Post,
-  check-associative-reads.Asked,
-  check-associative-reads.Learnt,
-  check-unary-reads.Asked,
-  check-unary-reads.Learnt,
-  one-below t,
-  one.Post,
-  quant-below t,
-  quant.Post,
-  ascribed-below t,
-  ascribed.Post,
-  stopped-reads.Asked,
-  stopped-reads.Learnt,
-) (body-at t) body.Post
-body-same-length-2 t c = ?
-
--- src/lib.rt:132:1
-body-same-length-3 : (t : ℕ) → body-lts.Need-same-length-3 (
-  placed-reads.Asked,
-  placed-reads.Learnt,
-  free-identifier-reads.Asked,
-  free-identifier-reads.Learnt,
-  bound-identifier-reads.Asked,
-  bound-identifier-reads.Learnt,
-  make-reads.Asked,
-  make-reads.Learnt,
-  check-atomic-reads.Asked,
-  check-atomic-reads.Learnt,
-  played-with-reads.Asked,
-  played-with-reads.Learnt,
-  play-reads.Asked,
-  play-reads.Learnt,
-  all-below t,
-  all.Post,
-  pred-below t,
-  pred.Post,
-  check-binary-reads.Asked,
-  check-binary-reads.Learnt,
-  two-below t,
-  two.Post,
-  check-associative-reads.Asked,
-  check-associative-reads.Learnt,
-  check-unary-reads.Asked,
-  check-unary-reads.Learnt,
-  one-below t,
-  one.Post,
-  quant-below t,
-  quant.Post,
-  ascribed-below t,
-  ascribed.Post,
-  stopped-reads.Asked,
-  stopped-reads.Learnt,
-) (body-at t) body.Post
-body-same-length-3 t c = ?
-
--- src/lib.rt:132:1
-body-returns-2 : (t : ℕ) → body-lts.Need-returns-2 (
-  placed-reads.Asked,
-  placed-reads.Learnt,
-  free-identifier-reads.Asked,
-  free-identifier-reads.Learnt,
-  bound-identifier-reads.Asked,
-  bound-identifier-reads.Learnt,
-  make-reads.Asked,
-  make-reads.Learnt,
-  check-atomic-reads.Asked,
-  check-atomic-reads.Learnt,
-  played-with-reads.Asked,
-  played-with-reads.Learnt,
-  play-reads.Asked,
-  play-reads.Learnt,
-  all-below t,
-  all.Post,
-  pred-below t,
-  pred.Post,
-  check-binary-reads.Asked,
-  check-binary-reads.Learnt,
-  two-below t,
-  two.Post,
-  check-associative-reads.Asked,
-  check-associative-reads.Learnt,
-  check-unary-reads.Asked,
-  check-unary-reads.Learnt,
-  one-below t,
-  one.Post,
-  quant-below t,
-  quant.Post,
-  ascribed-below t,
-  ascribed.Post,
-  stopped-reads.Asked,
-  stopped-reads.Learnt,
-) (body-at t) body.Post
-body-returns-2 t c = ?
-
--- src/lib.rt:132:1
-body-same-length-4 : (t : ℕ) → body-lts.Need-same-length-4 (
-  placed-reads.Asked,
-  placed-reads.Learnt,
-  free-identifier-reads.Asked,
-  free-identifier-reads.Learnt,
-  bound-identifier-reads.Asked,
-  bound-identifier-reads.Learnt,
-  make-reads.Asked,
-  make-reads.Learnt,
-  check-atomic-reads.Asked,
-  check-atomic-reads.Learnt,
-  played-with-reads.Asked,
-  played-with-reads.Learnt,
-  play-reads.Asked,
-  play-reads.Learnt,
-  all-below t,
-  all.Post,
-  pred-below t,
-  pred.Post,
-  check-binary-reads.Asked,
-  check-binary-reads.Learnt,
-  two-below t,
-  two.Post,
-  check-associative-reads.Asked,
-  check-associative-reads.Learnt,
-  check-unary-reads.Asked,
-  check-unary-reads.Learnt,
-  one-below t,
-  one.Post,
-  quant-below t,
-  quant.Post,
-  ascribed-below t,
-  ascribed.Post,
-  stopped-reads.Asked,
-  stopped-reads.Learnt,
-) (body-at t) body.Post
-body-same-length-4 t c = ?
-
--- src/lib.rt:132:1
-body-returns-3 : (t : ℕ) → body-lts.Need-returns-3 (
-  placed-reads.Asked,
-  placed-reads.Learnt,
-  free-identifier-reads.Asked,
-  free-identifier-reads.Learnt,
-  bound-identifier-reads.Asked,
-  bound-identifier-reads.Learnt,
-  make-reads.Asked,
-  make-reads.Learnt,
-  check-atomic-reads.Asked,
-  check-atomic-reads.Learnt,
-  played-with-reads.Asked,
-  played-with-reads.Learnt,
-  play-reads.Asked,
-  play-reads.Learnt,
-  all-below t,
-  all.Post,
-  pred-below t,
-  pred.Post,
-  check-binary-reads.Asked,
-  check-binary-reads.Learnt,
-  two-below t,
-  two.Post,
-  check-associative-reads.Asked,
-  check-associative-reads.Learnt,
-  check-unary-reads.Asked,
-  check-unary-reads.Learnt,
-  one-below t,
-  one.Post,
-  quant-below t,
-  quant.Post,
-  ascribed-below t,
-  ascribed.Post,
-  stopped-reads.Asked,
-  stopped-reads.Learnt,
-) (body-at t) body.Post
-body-returns-3 t c = ?
-
--- src/lib.rt:132:1
-body-same-length-5 : (t : ℕ) → body-lts.Need-same-length-5 (
-  placed-reads.Asked,
-  placed-reads.Learnt,
-  free-identifier-reads.Asked,
-  free-identifier-reads.Learnt,
-  bound-identifier-reads.Asked,
-  bound-identifier-reads.Learnt,
-  make-reads.Asked,
-  make-reads.Learnt,
-  check-atomic-reads.Asked,
-  check-atomic-reads.Learnt,
-  played-with-reads.Asked,
-  played-with-reads.Learnt,
-  play-reads.Asked,
-  play-reads.Learnt,
-  all-below t,
-  all.Post,
-  pred-below t,
-  pred.Post,
-  check-binary-reads.Asked,
-  check-binary-reads.Learnt,
-  two-below t,
-  two.Post,
-  check-associative-reads.Asked,
-  check-associative-reads.Learnt,
-  check-unary-reads.Asked,
-  check-unary-reads.Learnt,
-  one-below t,
-  one.Post,
-  quant-below t,
-  quant.Post,
-  ascribed-below t,
-  ascribed.Post,
-  stopped-reads.Asked,
-  stopped-reads.Learnt,
-) (body-at t) body.Post
-body-same-length-5 t c = ?
-
--- src/lib.rt:132:1
-body-same-length-6 : (t : ℕ) → body-lts.Need-same-length-6 (
-  placed-reads.Asked,
-  placed-reads.Learnt,
-  free-identifier-reads.Asked,
-  free-identifier-reads.Learnt,
-  bound-identifier-reads.Asked,
-  bound-identifier-reads.Learnt,
-  make-reads.Asked,
-  make-reads.Learnt,
-  check-atomic-reads.Asked,
-  check-atomic-reads.Learnt,
-  played-with-reads.Asked,
-  played-with-reads.Learnt,
-  play-reads.Asked,
-  play-reads.Learnt,
-  all-below t,
-  all.Post,
-  pred-below t,
-  pred.Post,
-  check-binary-reads.Asked,
-  check-binary-reads.Learnt,
-  two-below t,
-  two.Post,
-  check-associative-reads.Asked,
-  check-associative-reads.Learnt,
-  check-unary-reads.Asked,
-  check-unary-reads.Learnt,
-  one-below t,
-  one.Post,
-  quant-below t,
-  quant.Post,
-  ascribed-below t,
-  ascribed.Post,
-  stopped-reads.Asked,
-  stopped-reads.Learnt,
-) (body-at t) body.Post
-body-same-length-6 t c = ?
-
--- src/lib.rt:132:1
-body-returns-4 : (t : ℕ) → body-lts.Need-returns-4 (
-  placed-reads.Asked,
-  placed-reads.Learnt,
-  free-identifier-reads.Asked,
-  free-identifier-reads.Learnt,
-  bound-identifier-reads.Asked,
-  bound-identifier-reads.Learnt,
-  make-reads.Asked,
-  make-reads.Learnt,
-  check-atomic-reads.Asked,
-  check-atomic-reads.Learnt,
-  played-with-reads.Asked,
-  played-with-reads.Learnt,
-  play-reads.Asked,
-  play-reads.Learnt,
-  all-below t,
-  all.Post,
-  pred-below t,
-  pred.Post,
-  check-binary-reads.Asked,
-  check-binary-reads.Learnt,
-  two-below t,
-  two.Post,
-  check-associative-reads.Asked,
-  check-associative-reads.Learnt,
-  check-unary-reads.Asked,
-  check-unary-reads.Learnt,
-  one-below t,
-  one.Post,
-  quant-below t,
-  quant.Post,
-  ascribed-below t,
-  ascribed.Post,
-  stopped-reads.Asked,
-  stopped-reads.Learnt,
-) (body-at t) body.Post
-body-returns-4 t c = ?
-
--- src/lib.rt:132:1
-body-same-length-7 : (t : ℕ) → body-lts.Need-same-length-7 (
-  placed-reads.Asked,
-  placed-reads.Learnt,
-  free-identifier-reads.Asked,
-  free-identifier-reads.Learnt,
-  bound-identifier-reads.Asked,
-  bound-identifier-reads.Learnt,
-  make-reads.Asked,
-  make-reads.Learnt,
-  check-atomic-reads.Asked,
-  check-atomic-reads.Learnt,
-  played-with-reads.Asked,
-  played-with-reads.Learnt,
-  play-reads.Asked,
-  play-reads.Learnt,
-  all-below t,
-  all.Post,
-  pred-below t,
-  pred.Post,
-  check-binary-reads.Asked,
-  check-binary-reads.Learnt,
-  two-below t,
-  two.Post,
-  check-associative-reads.Asked,
-  check-associative-reads.Learnt,
-  check-unary-reads.Asked,
-  check-unary-reads.Learnt,
-  one-below t,
-  one.Post,
-  quant-below t,
-  quant.Post,
-  ascribed-below t,
-  ascribed.Post,
-  stopped-reads.Asked,
-  stopped-reads.Learnt,
-) (body-at t) body.Post
-body-same-length-7 t c = ?
-
--- src/lib.rt:132:1
-body-same-length-8 : (t : ℕ) → body-lts.Need-same-length-8 (
-  placed-reads.Asked,
-  placed-reads.Learnt,
-  free-identifier-reads.Asked,
-  free-identifier-reads.Learnt,
-  bound-identifier-reads.Asked,
-  bound-identifier-reads.Learnt,
-  make-reads.Asked,
-  make-reads.Learnt,
-  check-atomic-reads.Asked,
-  check-atomic-reads.Learnt,
-  played-with-reads.Asked,
-  played-with-reads.Learnt,
-  play-reads.Asked,
-  play-reads.Learnt,
-  all-below t,
-  all.Post,
-  pred-below t,
-  pred.Post,
-  check-binary-reads.Asked,
-  check-binary-reads.Learnt,
-  two-below t,
-  two.Post,
-  check-associative-reads.Asked,
-  check-associative-reads.Learnt,
-  check-unary-reads.Asked,
-  check-unary-reads.Learnt,
-  one-below t,
-  one.Post,
-  quant-below t,
-  quant.Post,
-  ascribed-below t,
-  ascribed.Post,
-  stopped-reads.Asked,
-  stopped-reads.Learnt,
-) (body-at t) body.Post
-body-same-length-8 t c = ?
-
--- src/lib.rt:132:1
-body-returns-5 : (t : ℕ) → body-lts.Need-returns-5 (
-  placed-reads.Asked,
-  placed-reads.Learnt,
-  free-identifier-reads.Asked,
-  free-identifier-reads.Learnt,
-  bound-identifier-reads.Asked,
-  bound-identifier-reads.Learnt,
-  make-reads.Asked,
-  make-reads.Learnt,
-  check-atomic-reads.Asked,
-  check-atomic-reads.Learnt,
-  played-with-reads.Asked,
-  played-with-reads.Learnt,
-  play-reads.Asked,
-  play-reads.Learnt,
-  all-below t,
-  all.Post,
-  pred-below t,
-  pred.Post,
-  check-binary-reads.Asked,
-  check-binary-reads.Learnt,
-  two-below t,
-  two.Post,
-  check-associative-reads.Asked,
-  check-associative-reads.Learnt,
-  check-unary-reads.Asked,
-  check-unary-reads.Learnt,
-  one-below t,
-  one.Post,
-  quant-below t,
-  quant.Post,
-  ascribed-below t,
-  ascribed.Post,
-  stopped-reads.Asked,
-  stopped-reads.Learnt,
-) (body-at t) body.Post
-body-returns-5 t c = ?
-
--- src/lib.rt:132:1
-body-same-length-9 : (t : ℕ) → body-lts.Need-same-length-9 (
-  placed-reads.Asked,
-  placed-reads.Learnt,
-  free-identifier-reads.Asked,
-  free-identifier-reads.Learnt,
-  bound-identifier-reads.Asked,
-  bound-identifier-reads.Learnt,
-  make-reads.Asked,
-  make-reads.Learnt,
-  check-atomic-reads.Asked,
-  check-atomic-reads.Learnt,
-  played-with-reads.Asked,
-  played-with-reads.Learnt,
-  play-reads.Asked,
-  play-reads.Learnt,
-  all-below t,
-  all.Post,
-  pred-below t,
-  pred.Post,
-  check-binary-reads.Asked,
-  check-binary-reads.Learnt,
-  two-below t,
-  two.Post,
-  check-associative-reads.Asked,
-  check-associative-reads.Learnt,
-  check-unary-reads.Asked,
-  check-unary-reads.Learnt,
-  one-below t,
-  one.Post,
-  quant-below t,
-  quant.Post,
-  ascribed-below t,
-  ascribed.Post,
-  stopped-reads.Asked,
-  stopped-reads.Learnt,
-) (body-at t) body.Post
-body-same-length-9 t c = ?
-
--- src/lib.rt:132:1
-body-same-length-10 : (t : ℕ) → body-lts.Need-same-length-10 (
-  placed-reads.Asked,
-  placed-reads.Learnt,
-  free-identifier-reads.Asked,
-  free-identifier-reads.Learnt,
-  bound-identifier-reads.Asked,
-  bound-identifier-reads.Learnt,
-  make-reads.Asked,
-  make-reads.Learnt,
-  check-atomic-reads.Asked,
-  check-atomic-reads.Learnt,
-  played-with-reads.Asked,
-  played-with-reads.Learnt,
-  play-reads.Asked,
-  play-reads.Learnt,
-  all-below t,
-  all.Post,
-  pred-below t,
-  pred.Post,
-  check-binary-reads.Asked,
-  check-binary-reads.Learnt,
-  two-below t,
-  two.Post,
-  check-associative-reads.Asked,
-  check-associative-reads.Learnt,
-  check-unary-reads.Asked,
-  check-unary-reads.Learnt,
-  one-below t,
-  one.Post,
-  quant-below t,
-  quant.Post,
-  ascribed-below t,
-  ascribed.Post,
-  stopped-reads.Asked,
-  stopped-reads.Learnt,
-) (body-at t) body.Post
-body-same-length-10 t c = ?
-
--- src/lib.rt:132:1
-body-returns-6 : (t : ℕ) → body-lts.Need-returns-6 (
-  placed-reads.Asked,
-  placed-reads.Learnt,
-  free-identifier-reads.Asked,
-  free-identifier-reads.Learnt,
-  bound-identifier-reads.Asked,
-  bound-identifier-reads.Learnt,
-  make-reads.Asked,
-  make-reads.Learnt,
-  check-atomic-reads.Asked,
-  check-atomic-reads.Learnt,
-  played-with-reads.Asked,
-  played-with-reads.Learnt,
-  play-reads.Asked,
-  play-reads.Learnt,
-  all-below t,
-  all.Post,
-  pred-below t,
-  pred.Post,
-  check-binary-reads.Asked,
-  check-binary-reads.Learnt,
-  two-below t,
-  two.Post,
-  check-associative-reads.Asked,
-  check-associative-reads.Learnt,
-  check-unary-reads.Asked,
-  check-unary-reads.Learnt,
-  one-below t,
-  one.Post,
-  quant-below t,
-  quant.Post,
-  ascribed-below t,
-  ascribed.Post,
-  stopped-reads.Asked,
-  stopped-reads.Learnt,
-) (body-at t) body.Post
-body-returns-6 t c = ?
-
--- src/lib.rt:132:1
-body-same-length-11 : (t : ℕ) → body-lts.Need-same-length-11 (
-  placed-reads.Asked,
-  placed-reads.Learnt,
-  free-identifier-reads.Asked,
-  free-identifier-reads.Learnt,
-  bound-identifier-reads.Asked,
-  bound-identifier-reads.Learnt,
-  make-reads.Asked,
-  make-reads.Learnt,
-  check-atomic-reads.Asked,
-  check-atomic-reads.Learnt,
-  played-with-reads.Asked,
-  played-with-reads.Learnt,
-  play-reads.Asked,
-  play-reads.Learnt,
-  all-below t,
-  all.Post,
-  pred-below t,
-  pred.Post,
-  check-binary-reads.Asked,
-  check-binary-reads.Learnt,
-  two-below t,
-  two.Post,
-  check-associative-reads.Asked,
-  check-associative-reads.Learnt,
-  check-unary-reads.Asked,
-  check-unary-reads.Learnt,
-  one-below t,
-  one.Post,
-  quant-below t,
-  quant.Post,
-  ascribed-below t,
-  ascribed.Post,
-  stopped-reads.Asked,
-  stopped-reads.Learnt,
-) (body-at t) body.Post
-body-same-length-11 t c = ?
-
--- src/lib.rt:132:1
-body-same-length-12 : (t : ℕ) → body-lts.Need-same-length-12 (
-  placed-reads.Asked,
-  placed-reads.Learnt,
-  free-identifier-reads.Asked,
-  free-identifier-reads.Learnt,
-  bound-identifier-reads.Asked,
-  bound-identifier-reads.Learnt,
-  make-reads.Asked,
-  make-reads.Learnt,
-  check-atomic-reads.Asked,
-  check-atomic-reads.Learnt,
-  played-with-reads.Asked,
-  played-with-reads.Learnt,
-  play-reads.Asked,
-  play-reads.Learnt,
-  all-below t,
-  all.Post,
-  pred-below t,
-  pred.Post,
-  check-binary-reads.Asked,
-  check-binary-reads.Learnt,
-  two-below t,
-  two.Post,
-  check-associative-reads.Asked,
-  check-associative-reads.Learnt,
-  check-unary-reads.Asked,
-  check-unary-reads.Learnt,
-  one-below t,
-  one.Post,
-  quant-below t,
-  quant.Post,
-  ascribed-below t,
-  ascribed.Post,
-  stopped-reads.Asked,
-  stopped-reads.Learnt,
-) (body-at t) body.Post
-body-same-length-12 t c = ?
-
--- src/lib.rt:132:1
-body-returns-7 : (t : ℕ) → body-lts.Need-returns-7 (
-  placed-reads.Asked,
-  placed-reads.Learnt,
-  free-identifier-reads.Asked,
-  free-identifier-reads.Learnt,
-  bound-identifier-reads.Asked,
-  bound-identifier-reads.Learnt,
-  make-reads.Asked,
-  make-reads.Learnt,
-  check-atomic-reads.Asked,
-  check-atomic-reads.Learnt,
-  played-with-reads.Asked,
-  played-with-reads.Learnt,
-  play-reads.Asked,
-  play-reads.Learnt,
-  all-below t,
-  all.Post,
-  pred-below t,
-  pred.Post,
-  check-binary-reads.Asked,
-  check-binary-reads.Learnt,
-  two-below t,
-  two.Post,
-  check-associative-reads.Asked,
-  check-associative-reads.Learnt,
-  check-unary-reads.Asked,
-  check-unary-reads.Learnt,
-  one-below t,
-  one.Post,
-  quant-below t,
-  quant.Post,
-  ascribed-below t,
-  ascribed.Post,
-  stopped-reads.Asked,
-  stopped-reads.Learnt,
-) (body-at t) body.Post
-body-returns-7 t c = ?
-
--- src/lib.rt:132:1
-body-same-length-13 : (t : ℕ) → body-lts.Need-same-length-13 (
-  placed-reads.Asked,
-  placed-reads.Learnt,
-  free-identifier-reads.Asked,
-  free-identifier-reads.Learnt,
-  bound-identifier-reads.Asked,
-  bound-identifier-reads.Learnt,
-  make-reads.Asked,
-  make-reads.Learnt,
-  check-atomic-reads.Asked,
-  check-atomic-reads.Learnt,
-  played-with-reads.Asked,
-  played-with-reads.Learnt,
-  play-reads.Asked,
-  play-reads.Learnt,
-  all-below t,
-  all.Post,
-  pred-below t,
-  pred.Post,
-  check-binary-reads.Asked,
-  check-binary-reads.Learnt,
-  two-below t,
-  two.Post,
-  check-associative-reads.Asked,
-  check-associative-reads.Learnt,
-  check-unary-reads.Asked,
-  check-unary-reads.Learnt,
-  one-below t,
-  one.Post,
-  quant-below t,
-  quant.Post,
-  ascribed-below t,
-  ascribed.Post,
-  stopped-reads.Asked,
-  stopped-reads.Learnt,
-) (body-at t) body.Post
-body-same-length-13 t c = ?
-
--- src/lib.rt:132:1
-body-same-length-14 : (t : ℕ) → body-lts.Need-same-length-14 (
-  placed-reads.Asked,
-  placed-reads.Learnt,
-  free-identifier-reads.Asked,
-  free-identifier-reads.Learnt,
-  bound-identifier-reads.Asked,
-  bound-identifier-reads.Learnt,
-  make-reads.Asked,
-  make-reads.Learnt,
-  check-atomic-reads.Asked,
-  check-atomic-reads.Learnt,
-  played-with-reads.Asked,
-  played-with-reads.Learnt,
-  play-reads.Asked,
-  play-reads.Learnt,
-  all-below t,
-  all.Post,
-  pred-below t,
-  pred.Post,
-  check-binary-reads.Asked,
-  check-binary-reads.Learnt,
-  two-below t,
-  two.Post,
-  check-associative-reads.Asked,
-  check-associative-reads.Learnt,
-  check-unary-reads.Asked,
-  check-unary-reads.Learnt,
-  one-below t,
-  one.Post,
-  quant-below t,
-  quant.Post,
-  ascribed-below t,
-  ascribed.Post,
-  stopped-reads.Asked,
-  stopped-reads.Learnt,
-) (body-at t) body.Post
-body-same-length-14 t c = ?
-
--- src/lib.rt:132:1
-body-returns-8 : (t : ℕ) → body-lts.Need-returns-8 (
-  placed-reads.Asked,
-  placed-reads.Learnt,
-  free-identifier-reads.Asked,
-  free-identifier-reads.Learnt,
-  bound-identifier-reads.Asked,
-  bound-identifier-reads.Learnt,
-  make-reads.Asked,
-  make-reads.Learnt,
-  check-atomic-reads.Asked,
-  check-atomic-reads.Learnt,
-  played-with-reads.Asked,
-  played-with-reads.Learnt,
-  play-reads.Asked,
-  play-reads.Learnt,
-  all-below t,
-  all.Post,
-  pred-below t,
-  pred.Post,
-  check-binary-reads.Asked,
-  check-binary-reads.Learnt,
-  two-below t,
-  two.Post,
-  check-associative-reads.Asked,
-  check-associative-reads.Learnt,
-  check-unary-reads.Asked,
-  check-unary-reads.Learnt,
-  one-below t,
-  one.Post,
-  quant-below t,
-  quant.Post,
-  ascribed-below t,
-  ascribed.Post,
-  stopped-reads.Asked,
-  stopped-reads.Learnt,
-) (body-at t) body.Post
-body-returns-8 t c = ?
-
--- src/lib.rt:132:1
-body-same-length-15 : (t : ℕ) → body-lts.Need-same-length-15 (
-  placed-reads.Asked,
-  placed-reads.Learnt,
-  free-identifier-reads.Asked,
-  free-identifier-reads.Learnt,
-  bound-identifier-reads.Asked,
-  bound-identifier-reads.Learnt,
-  make-reads.Asked,
-  make-reads.Learnt,
-  check-atomic-reads.Asked,
-  check-atomic-reads.Learnt,
-  played-with-reads.Asked,
-  played-with-reads.Learnt,
-  play-reads.Asked,
-  play-reads.Learnt,
-  all-below t,
-  all.Post,
-  pred-below t,
-  pred.Post,
-  check-binary-reads.Asked,
-  check-binary-reads.Learnt,
-  two-below t,
-  two.Post,
-  check-associative-reads.Asked,
-  check-associative-reads.Learnt,
-  check-unary-reads.Asked,
-  check-unary-reads.Learnt,
-  one-below t,
-  one.Post,
-  quant-below t,
-  quant.Post,
-  ascribed-below t,
-  ascribed.Post,
-  stopped-reads.Asked,
-  stopped-reads.Learnt,
-) (body-at t) body.Post
-body-same-length-15 t c = ?
-
--- src/lib.rt:132:1
-body-same-length-16 : (t : ℕ) → body-lts.Need-same-length-16 (
-  placed-reads.Asked,
-  placed-reads.Learnt,
-  free-identifier-reads.Asked,
-  free-identifier-reads.Learnt,
-  bound-identifier-reads.Asked,
-  bound-identifier-reads.Learnt,
-  make-reads.Asked,
-  make-reads.Learnt,
-  check-atomic-reads.Asked,
-  check-atomic-reads.Learnt,
-  played-with-reads.Asked,
-  played-with-reads.Learnt,
-  play-reads.Asked,
-  play-reads.Learnt,
-  all-below t,
-  all.Post,
-  pred-below t,
-  pred.Post,
-  check-binary-reads.Asked,
-  check-binary-reads.Learnt,
-  two-below t,
-  two.Post,
-  check-associative-reads.Asked,
-  check-associative-reads.Learnt,
-  check-unary-reads.Asked,
-  check-unary-reads.Learnt,
-  one-below t,
-  one.Post,
-  quant-below t,
-  quant.Post,
-  ascribed-below t,
-  ascribed.Post,
-  stopped-reads.Asked,
-  stopped-reads.Learnt,
-) (body-at t) body.Post
-body-same-length-16 t c = ?
-
--- src/lib.rt:132:1
-body-returns-9 : (t : ℕ) → body-lts.Need-returns-9 (
-  placed-reads.Asked,
-  placed-reads.Learnt,
-  free-identifier-reads.Asked,
-  free-identifier-reads.Learnt,
-  bound-identifier-reads.Asked,
-  bound-identifier-reads.Learnt,
-  make-reads.Asked,
-  make-reads.Learnt,
-  check-atomic-reads.Asked,
-  check-atomic-reads.Learnt,
-  played-with-reads.Asked,
-  played-with-reads.Learnt,
-  play-reads.Asked,
-  play-reads.Learnt,
-  all-below t,
-  all.Post,
-  pred-below t,
-  pred.Post,
-  check-binary-reads.Asked,
-  check-binary-reads.Learnt,
-  two-below t,
-  two.Post,
-  check-associative-reads.Asked,
-  check-associative-reads.Learnt,
-  check-unary-reads.Asked,
-  check-unary-reads.Learnt,
-  one-below t,
-  one.Post,
-  quant-below t,
-  quant.Post,
-  ascribed-below t,
-  ascribed.Post,
-  stopped-reads.Asked,
-  stopped-reads.Learnt,
-) (body-at t) body.Post
-body-returns-9 t c = ?
-
--- src/lib.rt:132:1
-body-same-length-17 : (t : ℕ) → body-lts.Need-same-length-17 (
-  placed-reads.Asked,
-  placed-reads.Learnt,
-  free-identifier-reads.Asked,
-  free-identifier-reads.Learnt,
-  bound-identifier-reads.Asked,
-  bound-identifier-reads.Learnt,
-  make-reads.Asked,
-  make-reads.Learnt,
-  check-atomic-reads.Asked,
-  check-atomic-reads.Learnt,
-  played-with-reads.Asked,
-  played-with-reads.Learnt,
-  play-reads.Asked,
-  play-reads.Learnt,
-  all-below t,
-  all.Post,
-  pred-below t,
-  pred.Post,
-  check-binary-reads.Asked,
-  check-binary-reads.Learnt,
-  two-below t,
-  two.Post,
-  check-associative-reads.Asked,
-  check-associative-reads.Learnt,
-  check-unary-reads.Asked,
-  check-unary-reads.Learnt,
-  one-below t,
-  one.Post,
-  quant-below t,
-  quant.Post,
-  ascribed-below t,
-  ascribed.Post,
-  stopped-reads.Asked,
-  stopped-reads.Learnt,
-) (body-at t) body.Post
-body-same-length-17 t c = ?
-
--- src/lib.rt:132:1
-body-same-length-18 : (t : ℕ) → body-lts.Need-same-length-18 (
-  placed-reads.Asked,
-  placed-reads.Learnt,
-  free-identifier-reads.Asked,
-  free-identifier-reads.Learnt,
-  bound-identifier-reads.Asked,
-  bound-identifier-reads.Learnt,
-  make-reads.Asked,
-  make-reads.Learnt,
-  check-atomic-reads.Asked,
-  check-atomic-reads.Learnt,
-  played-with-reads.Asked,
-  played-with-reads.Learnt,
-  play-reads.Asked,
-  play-reads.Learnt,
-  all-below t,
-  all.Post,
-  pred-below t,
-  pred.Post,
-  check-binary-reads.Asked,
-  check-binary-reads.Learnt,
-  two-below t,
-  two.Post,
-  check-associative-reads.Asked,
-  check-associative-reads.Learnt,
-  check-unary-reads.Asked,
-  check-unary-reads.Learnt,
-  one-below t,
-  one.Post,
-  quant-below t,
-  quant.Post,
-  ascribed-below t,
-  ascribed.Post,
-  stopped-reads.Asked,
-  stopped-reads.Learnt,
-) (body-at t) body.Post
-body-same-length-18 t c = ?
-
--- src/lib.rt:132:1
-body-returns-10 : (t : ℕ) → body-lts.Need-returns-10 (
-  placed-reads.Asked,
-  placed-reads.Learnt,
-  free-identifier-reads.Asked,
-  free-identifier-reads.Learnt,
-  bound-identifier-reads.Asked,
-  bound-identifier-reads.Learnt,
-  make-reads.Asked,
-  make-reads.Learnt,
-  check-atomic-reads.Asked,
-  check-atomic-reads.Learnt,
-  played-with-reads.Asked,
-  played-with-reads.Learnt,
-  play-reads.Asked,
-  play-reads.Learnt,
-  all-below t,
-  all.Post,
-  pred-below t,
-  pred.Post,
-  check-binary-reads.Asked,
-  check-binary-reads.Learnt,
-  two-below t,
-  two.Post,
-  check-associative-reads.Asked,
-  check-associative-reads.Learnt,
-  check-unary-reads.Asked,
-  check-unary-reads.Learnt,
-  one-below t,
-  one.Post,
-  quant-below t,
-  quant.Post,
-  ascribed-below t,
-  ascribed.Post,
-  stopped-reads.Asked,
-  stopped-reads.Learnt,
-) (body-at t) body.Post
-body-returns-10 t c = ?
-
--- src/lib.rt:132:1
-body-same-length-19 : (t : ℕ) → body-lts.Need-same-length-19 (
-  placed-reads.Asked,
-  placed-reads.Learnt,
-  free-identifier-reads.Asked,
-  free-identifier-reads.Learnt,
-  bound-identifier-reads.Asked,
-  bound-identifier-reads.Learnt,
-  make-reads.Asked,
-  make-reads.Learnt,
-  check-atomic-reads.Asked,
-  check-atomic-reads.Learnt,
-  played-with-reads.Asked,
-  played-with-reads.Learnt,
-  play-reads.Asked,
-  play-reads.Learnt,
-  all-below t,
-  all.Post,
-  pred-below t,
-  pred.Post,
-  check-binary-reads.Asked,
-  check-binary-reads.Learnt,
-  two-below t,
-  two.Post,
-  check-associative-reads.Asked,
-  check-associative-reads.Learnt,
-  check-unary-reads.Asked,
-  check-unary-reads.Learnt,
-  one-below t,
-  one.Post,
-  quant-below t,
-  quant.Post,
-  ascribed-below t,
-  ascribed.Post,
-  stopped-reads.Asked,
-  stopped-reads.Learnt,
-) (body-at t) body.Post
-body-same-length-19 t c = ?
-
--- src/lib.rt:132:1
-body-same-length-20 : (t : ℕ) → body-lts.Need-same-length-20 (
-  placed-reads.Asked,
-  placed-reads.Learnt,
-  free-identifier-reads.Asked,
-  free-identifier-reads.Learnt,
-  bound-identifier-reads.Asked,
-  bound-identifier-reads.Learnt,
-  make-reads.Asked,
-  make-reads.Learnt,
-  check-atomic-reads.Asked,
-  check-atomic-reads.Learnt,
-  played-with-reads.Asked,
-  played-with-reads.Learnt,
-  play-reads.Asked,
-  play-reads.Learnt,
-  all-below t,
-  all.Post,
-  pred-below t,
-  pred.Post,
-  check-binary-reads.Asked,
-  check-binary-reads.Learnt,
-  two-below t,
-  two.Post,
-  check-associative-reads.Asked,
-  check-associative-reads.Learnt,
-  check-unary-reads.Asked,
-  check-unary-reads.Learnt,
-  one-below t,
-  one.Post,
-  quant-below t,
-  quant.Post,
-  ascribed-below t,
-  ascribed.Post,
-  stopped-reads.Asked,
-  stopped-reads.Learnt,
-) (body-at t) body.Post
-body-same-length-20 t c = ?
-
--- src/lib.rt:132:1
-body-returns-11 : (t : ℕ) → body-lts.Need-returns-11 (
-  placed-reads.Asked,
-  placed-reads.Learnt,
-  free-identifier-reads.Asked,
-  free-identifier-reads.Learnt,
-  bound-identifier-reads.Asked,
-  bound-identifier-reads.Learnt,
-  make-reads.Asked,
-  make-reads.Learnt,
-  check-atomic-reads.Asked,
-  check-atomic-reads.Learnt,
-  played-with-reads.Asked,
-  played-with-reads.Learnt,
-  play-reads.Asked,
-  play-reads.Learnt,
-  all-below t,
-  all.Post,
-  pred-below t,
-  pred.Post,
-  check-binary-reads.Asked,
-  check-binary-reads.Learnt,
-  two-below t,
-  two.Post,
-  check-associative-reads.Asked,
-  check-associative-reads.Learnt,
-  check-unary-reads.Asked,
-  check-unary-reads.Learnt,
-  one-below t,
-  one.Post,
-  quant-below t,
-  quant.Post,
-  ascribed-below t,
-  ascribed.Post,
-  stopped-reads.Asked,
-  stopped-reads.Learnt,
-) (body-at t) body.Post
-body-returns-11 t c = ?
-
--- src/lib.rt:132:1
-body-returns-12 : (t : ℕ) → body-lts.Need-returns-12 (
-  placed-reads.Asked,
-  placed-reads.Learnt,
-  free-identifier-reads.Asked,
-  free-identifier-reads.Learnt,
-  bound-identifier-reads.Asked,
-  bound-identifier-reads.Learnt,
-  make-reads.Asked,
-  make-reads.Learnt,
-  check-atomic-reads.Asked,
-  check-atomic-reads.Learnt,
-  played-with-reads.Asked,
-  played-with-reads.Learnt,
-  play-reads.Asked,
-  play-reads.Learnt,
-  all-below t,
-  all.Post,
-  pred-below t,
-  pred.Post,
-  check-binary-reads.Asked,
-  check-binary-reads.Learnt,
-  two-below t,
-  two.Post,
-  check-associative-reads.Asked,
-  check-associative-reads.Learnt,
-  check-unary-reads.Asked,
-  check-unary-reads.Learnt,
-  one-below t,
-  one.Post,
-  quant-below t,
-  quant.Post,
-  ascribed-below t,
-  ascribed.Post,
-  stopped-reads.Asked,
-  stopped-reads.Learnt,
-) (body-at t) body.Post
-body-returns-12 t c = ?
+-- what each member is handed of the functions that it calls
+abbrev all-env : ℕ → all-lts.Claims
+all-env t = (played-with-reads.Asked, played-with-reads.Learnt, play-reads.Asked, play-reads.Learnt, each-below t, each.Post)
+
+abbrev ascribed-env : ℕ → ascribed-lts.Claims
+ascribed-env t = (placed-reads.Asked, placed-reads.Learnt, expr-below t, expr.Post, ascription-reads.Asked, ascription-reads.Learnt, gave-reads.Asked, gave-reads.Learnt)
+
+abbrev body-env : ℕ → body-lts.Claims
+body-env t = (placed-reads.Asked, placed-reads.Learnt, free-identifier-reads.Asked, free-identifier-reads.Learnt, bound-identifier-reads.Asked, bound-identifier-reads.Learnt, make-reads.Asked, make-reads.Learnt, check-atomic-reads.Asked, check-atomic-reads.Learnt, played-with-reads.Asked, played-with-reads.Learnt, play-reads.Asked, play-reads.Learnt, all-below t, all.Post, pred-below t, pred.Post, check-binary-reads.Asked, check-binary-reads.Learnt, two-below t, two.Post, check-associative-reads.Asked, check-associative-reads.Learnt, check-unary-reads.Asked, check-unary-reads.Learnt, one-below t, one.Post, quant-below t, quant.Post, ascribed-below t, ascribed.Post, stopped-reads.Asked, stopped-reads.Learnt)
+
+abbrev each-env : ℕ → each-lts.Claims
+each-env t = (played-with-reads.Asked, played-with-reads.Learnt, play-reads.Asked, play-reads.Learnt, expr-below t, expr.Post, meet-reads.Asked, meet-reads.Learnt, next-reads.Asked, next-reads.Learnt, gave-reads.Asked, gave-reads.Learnt)
+
+abbrev explicit-env : ℕ → explicit-lts.Claims
+explicit-env t = (paid-reads.Asked, paid-reads.Learnt, stopped-reads.Asked, stopped-reads.Learnt, placed-reads.Asked, placed-reads.Learnt, skip-reads.Asked, skip-reads.Learnt, expr-below t, expr.Post, meets-reads.Asked, meets-reads.Learnt, gave-reads.Asked, gave-reads.Learnt)
+
+abbrev expr-env : ℕ → expr-lts.Claims
+expr-env t = (expr-head-reads.Asked, expr-head-reads.Learnt, stopped-reads.Asked, stopped-reads.Learnt, explicit-below t, explicit.Post, owned-below t, owned.Post)
+
+abbrev one-env : ℕ → one-lts.Claims
+one-env t = (expr-below t, expr.Post, played-with-reads.Asked, played-with-reads.Learnt, play-reads.Asked, play-reads.Learnt)
+
+abbrev owned-env : ℕ → owned-lts.Claims
+owned-env t = (enter-reads.Asked, enter-reads.Learnt, stopped-reads.Asked, stopped-reads.Learnt, body-below t, body.Post, leave-reads.Asked, leave-reads.Learnt)
+
+abbrev pbody-env : ℕ → pbody-lts.Claims
+pbody-env t = (placed-reads.Asked, placed-reads.Learnt, check-relational-reads.Asked, check-relational-reads.Learnt, two-below t, two.Post, preds-below t, preds.Post, pred-below t, pred.Post, pquant-below t, pquant.Post, one-below t, one.Post, all-below t, all.Post, list-reads.Asked, list-reads.Learnt)
+
+abbrev pquant-env : ℕ → pquant-lts.Claims
+pquant-env t = (placed-reads.Asked, placed-reads.Learnt, declare-reads.Asked, declare-reads.Learnt, pred-below t, pred.Post, bounded-reads.Asked, bounded-reads.Learnt)
+
+abbrev pred-env : ℕ → pred-lts.Claims
+pred-env t = (pred-head-reads.Asked, pred-head-reads.Learnt, stopped-reads.Asked, stopped-reads.Learnt, paid-reads.Asked, paid-reads.Learnt, pbody-below t, pbody.Post)
+
+abbrev preds-env : ℕ → preds-lts.Claims
+preds-env t = (pred-below t, pred.Post)
+
+abbrev quant-env : ℕ → quant-lts.Claims
+quant-env t = (check-quantified-reads.Asked, check-quantified-reads.Learnt, placed-reads.Asked, placed-reads.Learnt, declare-reads.Asked, declare-reads.Learnt, pred-below t, pred.Post, one-below t, one.Post, bounded-reads.Asked, bounded-reads.Learnt)
+
+abbrev two-env : ℕ → two-lts.Claims
+two-env t = (expr-below t, expr.Post, played-with-reads.Asked, played-with-reads.Learnt, play-reads.Asked, play-reads.Learnt)
+
+all-played-with-requires : (t : ℕ) → all-lts.Need-played-with-requires (all-env t) (all-at t) all.Post
+all-played-with-requires t c κs = search needs
+
+all-play-requires : (t : ℕ) → all-lts.Need-play-requires (all-env t) (all-at t) all.Post
+all-play-requires t c κs = search needs
+
+all-each-requires : (t : ℕ) → all-lts.Need-each-requires (all-env t) (all-at t) all.Post
+all-each-requires t c κs = (omega (arith, c .before .before .before .before .before .before .before .before .before .before .before .before .before .before .before .before .pre .0), tt)
+
+all-played-with-requires-2 : (t : ℕ) → all-lts.Need-played-with-requires-2 (all-env t) (all-at t) all.Post
+all-played-with-requires-2 t c κs = search needs
+
+all-play-requires-2 : (t : ℕ) → all-lts.Need-play-requires-2 (all-env t) (all-at t) all.Post
+all-play-requires-2 t c κs = search needs
+
+all-same-length : (t : ℕ) → all-lts.Need-same-length (all-env t) (all-at t) all.Post
+all-same-length t c = omega (arith, c .before .before .before .before .play2 .kept .0, c .before .before .before .before .play2 .kept .1 .0, c .before .before .before .before .before .before .before .before .before .before .before .before .before .each .kept .1 .1 .0, c .before .before .before .before .before .before .before .before .before .before .before .before .before .each .kept .1 .1 .1 .0, c .before .before .before .before .before .before .before .before .before .before .before .before .before .before .before .before .before .before .before .before .before .play .kept .0, c .before .before .before .before .before .before .before .before .before .before .before .before .before .before .before .before .before .before .before .before .before .play .kept .1 .0)
+
+all-same-length-2 : (t : ℕ) → all-lts.Need-same-length-2 (all-env t) (all-at t) all.Post
+all-same-length-2 t c = omega (arith, c .before .before .before .before .play2 .kept .0, c .before .before .before .before .play2 .kept .1 .0, c .before .before .before .before .before .before .before .before .before .before .before .before .before .each .kept .1 .1 .0, c .before .before .before .before .before .before .before .before .before .before .before .before .before .each .kept .1 .1 .1 .0, c .before .before .before .before .before .before .before .before .before .before .before .before .before .before .before .before .before .before .before .before .before .play .kept .0, c .before .before .before .before .before .before .before .before .before .before .before .before .before .before .before .before .before .before .before .before .before .play .kept .1 .0)
+
+all-returns : (t : ℕ) → all-lts.Need-returns (all-env t) (all-at t) all.Post
+unfolding allBy
+all-returns t c = step _ _ _ _ (c .before .before .before .before .before .before .before .before .before .before .before .before .before .before .before .before .before .before .before .before .before .before .before .before .played-with .ensures) (step _ _ _ _ (c .before .before .before .before .before .before .before .before .before .before .before .before .before .before .before .before .before .before .before .before .before .play .ensures) (step _ _ _ _ (c .before .before .before .before .before .before .before .before .before .before .before .before .before .each .ensures) (step _ _ _ _ (c .before .before .before .before .before .before .before .played-with2 .ensures) (c .before .before .before .before .play2 .ensures))))
+
+ascribed-placed-requires : (t : ℕ) → ascribed-lts.Need-placed-requires (ascribed-env t) (ascribed-at t) ascribed.Post
+ascribed-placed-requires t c κs = search needs
+
+ascribed-expr-requires : (t : ℕ) → ascribed-lts.Need-expr-requires (ascribed-env t) (ascribed-at t) ascribed.Post
+ascribed-expr-requires t c κs = (omega (arith, c .before .before .before .before .before .before .before .before .pre .0), tt)
+
+ascribed-ascription-requires : (t : ℕ) → ascribed-lts.Need-ascription-requires (ascribed-env t) (ascribed-at t) ascribed.Post
+ascribed-ascription-requires t c κs = search needs
+
+ascribed-gave-requires : (t : ℕ) → ascribed-lts.Need-gave-requires (ascribed-env t) (ascribed-at t) ascribed.Post
+ascribed-gave-requires t c κs = search needs
+
+ascribed-same-length : (t : ℕ) → ascribed-lts.Need-same-length (ascribed-env t) (ascribed-at t) ascribed.Post
+ascribed-same-length t c = omega (arith, c .before .before .before .before .before .ascription .kept .1 .1 .0, c .before .before .before .before .before .ascription .kept .1 .1 .1 .0, c .before .before .before .before .before .before .before .before .before .before .before .before .before .expr .kept .1 .1 .0, c .before .before .before .before .before .before .before .before .before .before .before .before .before .expr .kept .1 .1 .1 .0)
+
+ascribed-same-length-2 : (t : ℕ) → ascribed-lts.Need-same-length-2 (ascribed-env t) (ascribed-at t) ascribed.Post
+ascribed-same-length-2 t c = omega (arith, c .before .before .before .before .before .ascription .kept .1 .1 .0, c .before .before .before .before .before .ascription .kept .1 .1 .1 .0, c .before .before .before .before .before .before .before .before .before .before .before .before .before .expr .kept .1 .1 .0, c .before .before .before .before .before .before .before .before .before .before .before .before .before .expr .kept .1 .1 .1 .0)
+
+ascribed-returns : (t : ℕ) → ascribed-lts.Need-returns (ascribed-env t) (ascribed-at t) ascribed.Post
+unfolding ascribedBy
+ascribed-returns t c = step _ _ _ _ (c .before .before .before .before .before .before .before .before .before .before .before .before .before .before .placed .ensures) (step _ _ _ _ (c .before .before .before .before .before .before .before .before .before .before .before .before .before .expr .ensures) (step _ _ _ _ (c .before .before .before .before .before .ascription .ensures) (step _ _ _ _ (c .gave .ensures) refl)))
+
+body-enum-known-h : (t : ℕ) → body-lts.Need-enum-known-h (body-env t) (body-at t) body.Post
+body-enum-known-h t c = search needs
+
+body-placed-requires : (t : ℕ) → body-lts.Need-placed-requires (body-env t) (body-at t) body.Post
+body-placed-requires t c κs = search needs
+
+body-free-identifier-requires : (t : ℕ) → body-lts.Need-free-identifier-requires (body-env t) (body-at t) body.Post
+body-free-identifier-requires t c κs = search needs
+
+body-enum-known-h-2 : (t : ℕ) → body-lts.Need-enum-known-h-2 (body-env t) (body-at t) body.Post
+body-enum-known-h-2 t c = search needs
+
+body-cast-index : (t : ℕ) → body-lts.Need-cast-index (body-env t) (body-at t) body.Post
+body-cast-index t c = search needs
+
+body-placed-requires-2 : (t : ℕ) → body-lts.Need-placed-requires-2 (body-env t) (body-at t) body.Post
+body-placed-requires-2 t c κs = search needs
+
+body-bound-identifier-requires : (t : ℕ) → body-lts.Need-bound-identifier-requires (body-env t) (body-at t) body.Post
+body-bound-identifier-requires t c κs = search needs
+
+body-enum-known-h-3 : (t : ℕ) → body-lts.Need-enum-known-h-3 (body-env t) (body-at t) body.Post
+body-enum-known-h-3 t c = search needs
+
+body-placed-requires-3 : (t : ℕ) → body-lts.Need-placed-requires-3 (body-env t) (body-at t) body.Post
+body-placed-requires-3 t c κs = search needs
+
+body-make-requires : (t : ℕ) → body-lts.Need-make-requires (body-env t) (body-at t) body.Post
+body-make-requires t c κs = search needs
+
+body-enum-known-h-4 : (t : ℕ) → body-lts.Need-enum-known-h-4 (body-env t) (body-at t) body.Post
+body-enum-known-h-4 t c = search needs
+
+body-check-atomic-requires : (t : ℕ) → body-lts.Need-check-atomic-requires (body-env t) (body-at t) body.Post
+body-check-atomic-requires t c κs = search needs
+
+body-played-with-requires : (t : ℕ) → body-lts.Need-played-with-requires (body-env t) (body-at t) body.Post
+body-played-with-requires t c κs = search needs
+
+body-placed-requires-4 : (t : ℕ) → body-lts.Need-placed-requires-4 (body-env t) (body-at t) body.Post
+body-placed-requires-4 t c κs = search needs
+
+body-play-requires : (t : ℕ) → body-lts.Need-play-requires (body-env t) (body-at t) body.Post
+body-play-requires t c κs = search needs
+
+body-enum-known-h-5 : (t : ℕ) → body-lts.Need-enum-known-h-5 (body-env t) (body-at t) body.Post
+body-enum-known-h-5 t c = search needs
+
+body-placed-requires-5 : (t : ℕ) → body-lts.Need-placed-requires-5 (body-env t) (body-at t) body.Post
+body-placed-requires-5 t c κs = search needs
+
+body-all-requires : (t : ℕ) → body-lts.Need-all-requires (body-env t) (body-at t) body.Post
+body-all-requires t c κs = (omega (arith, c .before .before .before .before .before .before .before .before .before .before .before .pre .0), tt)
+
+body-enum-known-h-6 : (t : ℕ) → body-lts.Need-enum-known-h-6 (body-env t) (body-at t) body.Post
+body-enum-known-h-6 t c = search needs
+
+body-placed-requires-6 : (t : ℕ) → body-lts.Need-placed-requires-6 (body-env t) (body-at t) body.Post
+body-placed-requires-6 t c κs = search needs
+
+body-pred-requires : (t : ℕ) → body-lts.Need-pred-requires (body-env t) (body-at t) body.Post
+body-pred-requires t c κs = (omega (arith, c .before .before .before .before .before .before .before .before .before .before .before .pre .0), tt)
+
+body-make-requires-2 : (t : ℕ) → body-lts.Need-make-requires-2 (body-env t) (body-at t) body.Post
+body-make-requires-2 t c κs = search needs
+
+body-enum-known-h-7 : (t : ℕ) → body-lts.Need-enum-known-h-7 (body-env t) (body-at t) body.Post
+body-enum-known-h-7 t c = search needs
+
+body-check-binary-requires : (t : ℕ) → body-lts.Need-check-binary-requires (body-env t) (body-at t) body.Post
+body-check-binary-requires t c κs = search needs
+
+body-placed-requires-7 : (t : ℕ) → body-lts.Need-placed-requires-7 (body-env t) (body-at t) body.Post
+body-placed-requires-7 t c κs = search needs
+
+body-two-requires : (t : ℕ) → body-lts.Need-two-requires (body-env t) (body-at t) body.Post
+body-two-requires t c κs = (omega (arith, c .before .before .before .before .before .before .before .before .before .before .before .before .pre .0), tt)
+
+body-enum-known-h-8 : (t : ℕ) → body-lts.Need-enum-known-h-8 (body-env t) (body-at t) body.Post
+body-enum-known-h-8 t c = search needs
+
+body-check-associative-requires : (t : ℕ) → body-lts.Need-check-associative-requires (body-env t) (body-at t) body.Post
+body-check-associative-requires t c κs = search needs
+
+body-placed-requires-8 : (t : ℕ) → body-lts.Need-placed-requires-8 (body-env t) (body-at t) body.Post
+body-placed-requires-8 t c κs = search needs
+
+body-all-requires-2 : (t : ℕ) → body-lts.Need-all-requires-2 (body-env t) (body-at t) body.Post
+body-all-requires-2 t c κs = (omega (arith, c .before .before .before .before .before .before .before .before .before .before .before .before .pre .0), tt)
+
+body-enum-known-h-9 : (t : ℕ) → body-lts.Need-enum-known-h-9 (body-env t) (body-at t) body.Post
+body-enum-known-h-9 t c = search needs
+
+body-check-unary-requires : (t : ℕ) → body-lts.Need-check-unary-requires (body-env t) (body-at t) body.Post
+body-check-unary-requires t c κs = search needs
+
+body-placed-requires-9 : (t : ℕ) → body-lts.Need-placed-requires-9 (body-env t) (body-at t) body.Post
+body-placed-requires-9 t c κs = search needs
+
+body-one-requires : (t : ℕ) → body-lts.Need-one-requires (body-env t) (body-at t) body.Post
+body-one-requires t c κs = (omega (arith, c .before .before .before .before .before .before .before .before .before .before .before .before .pre .0), tt)
+
+body-enum-known-h-10 : (t : ℕ) → body-lts.Need-enum-known-h-10 (body-env t) (body-at t) body.Post
+body-enum-known-h-10 t c = search needs
+
+body-quant-requires : (t : ℕ) → body-lts.Need-quant-requires (body-env t) (body-at t) body.Post
+body-quant-requires t c κs = (omega (arith, c .before .before .before .before .before .before .before .before .before .before .pre .0), tt)
+
+body-enum-known-h-11 : (t : ℕ) → body-lts.Need-enum-known-h-11 (body-env t) (body-at t) body.Post
+body-enum-known-h-11 t c = search needs
+
+body-ascribed-requires : (t : ℕ) → body-lts.Need-ascribed-requires (body-env t) (body-at t) body.Post
+body-ascribed-requires t c κs = (omega (arith, c .before .before .before .before .before .before .before .before .before .before .pre .0), tt)
+
+body-enum-told : (t : ℕ) → body-lts.Need-enum-told (body-env t) (body-at t) body.Post
+body-enum-told t c = search needs
+
+body-stopped-requires : (t : ℕ) → body-lts.Need-stopped-requires (body-env t) (body-at t) body.Post
+body-stopped-requires t c κs = search needs
+
+body-same-length : (t : ℕ) → body-lts.Need-same-length (body-env t) (body-at t) body.Post
+body-same-length t c = omega (arith, c .before .before .free-identifier .kept .1 .0)
+
+body-returns : (t : ℕ) → body-lts.Need-returns (body-env t) (body-at t) body.Post
+unfolding bodyBy
+body-returns t c = by-body _ _ _ _ _ _ _ _ (c .before .before .before .before .before .before .h .given .1) (step _ _ _ _ (c .before .before .before .placed .ensures) (c .before .before .free-identifier .ensures _))
+
+body-same-length-2 : (t : ℕ) → body-lts.Need-same-length-2 (body-env t) (body-at t) body.Post
+body-same-length-2 t c = omega (arith, c .before .before .before .before .bound-identifier .kept .0, c .before .before .before .before .bound-identifier .kept .1 .0)
+
+body-same-length-3 : (t : ℕ) → body-lts.Need-same-length-3 (body-env t) (body-at t) body.Post
+body-same-length-3 t c = omega (arith, c .before .before .before .before .bound-identifier .kept .0, c .before .before .before .before .bound-identifier .kept .1 .0)
+
+body-returns-2 : (t : ℕ) → body-lts.Need-returns-2 (body-env t) (body-at t) body.Post
+unfolding bodyBy
+body-returns-2 t c = by-body _ _ _ _ _ _ _ _ (c .before .before .before .before .before .before .before .before .before .h2 .given .1) (step _ _ _ _ (c .before .before .before .before .before .placed2 .ensures) (c .before .before .before .before .bound-identifier .ensures))
+
+body-same-length-4 : (t : ℕ) → body-lts.Need-same-length-4 (body-env t) (body-at t) body.Post
+body-same-length-4 t c = omega (arith, c .before .before .make .kept .0)
+
+body-returns-3 : (t : ℕ) → body-lts.Need-returns-3 (body-env t) (body-at t) body.Post
+unfolding bodyBy
+body-returns-3 t c = by-body _ _ _ _ _ _ _ _ (c .before .before .before .before .before .before .h3 .given .1) (step _ _ _ _ (c .before .before .before .placed3 .ensures) (c .before .before .make .ensures _))
+
+body-same-length-5 : (t : ℕ) → body-lts.Need-same-length-5 (body-env t) (body-at t) body.Post
+body-same-length-5 t c = omega (arith, c .before .before .before .before .play .kept .0, c .before .before .before .before .play .kept .1 .0)
+
+body-same-length-6 : (t : ℕ) → body-lts.Need-same-length-6 (body-env t) (body-at t) body.Post
+body-same-length-6 t c = omega (arith, c .before .before .before .before .play .kept .0, c .before .before .before .before .play .kept .1 .0)
+
+body-returns-4 : (t : ℕ) → body-lts.Need-returns-4 (body-env t) (body-at t) body.Post
+unfolding bodyBy
+body-returns-4 t c = by-body _ _ _ _ _ _ _ _ (c .before .before .before .before .before .before .before .before .before .before .before .h4 .given .1) (step _ _ _ _ (c .before .before .before .before .before .before .before .before .before .check-atomic .ensures) (step _ _ _ _ (c .before .before .before .before .before .before .before .before .played-with .ensures) (step _ _ _ _ (c .before .before .before .before .before .placed4 .ensures) (c .before .before .before .before .play .ensures))))
+
+body-same-length-7 : (t : ℕ) → body-lts.Need-same-length-7 (body-env t) (body-at t) body.Post
+body-same-length-7 t c = omega (arith, c .before .before .before .before .all .kept .1 .1 .0, c .before .before .before .before .all .kept .1 .1 .1 .0)
+
+body-same-length-8 : (t : ℕ) → body-lts.Need-same-length-8 (body-env t) (body-at t) body.Post
+body-same-length-8 t c = omega (arith, c .before .before .before .before .all .kept .1 .1 .0, c .before .before .before .before .all .kept .1 .1 .1 .0)
+
+body-returns-5 : (t : ℕ) → body-lts.Need-returns-5 (body-env t) (body-at t) body.Post
+unfolding bodyBy
+body-returns-5 t c = by-body _ _ _ _ _ _ _ _ (c .before .before .before .before .before .before .before .before .before .h5 .given .1) (step _ _ _ _ (c .before .before .before .before .before .placed5 .ensures) (c .before .before .before .before .all .ensures))
+
+body-same-length-9 : (t : ℕ) → body-lts.Need-same-length-9 (body-env t) (body-at t) body.Post
+body-same-length-9 t c = omega (arith, c .before .before .make2 .kept .0, c .before .before .before .before .before .before .before .before .pred .kept .1 .1 .0, c .before .before .before .before .before .before .before .before .pred .kept .1 .1 .1 .0)
+
+body-same-length-10 : (t : ℕ) → body-lts.Need-same-length-10 (body-env t) (body-at t) body.Post
+body-same-length-10 t c = omega (arith, c .before .before .make2 .kept .0, c .before .before .before .before .before .before .before .before .pred .kept .1 .1 .0, c .before .before .before .before .before .before .before .before .pred .kept .1 .1 .1 .0)
+
+body-returns-6 : (t : ℕ) → body-lts.Need-returns-6 (body-env t) (body-at t) body.Post
+unfolding bodyBy
+body-returns-6 t c = by-body _ _ _ _ _ _ _ _ (c .before .before .before .before .before .before .before .before .before .before .before .before .before .h6 .given .1) (step _ _ _ _ (step _ _ _ _ (c .before .before .before .before .before .before .before .before .before .placed6 .ensures) (c .before .before .before .before .before .before .before .before .pred .ensures)) (c .before .before .make2 .ensures _))
+
+body-same-length-11 : (t : ℕ) → body-lts.Need-same-length-11 (body-env t) (body-at t) body.Post
+body-same-length-11 t c = omega (arith, c .before .before .before .before .two .kept .1 .1 .0, c .before .before .before .before .two .kept .1 .1 .1 .0)
+
+body-same-length-12 : (t : ℕ) → body-lts.Need-same-length-12 (body-env t) (body-at t) body.Post
+body-same-length-12 t c = omega (arith, c .before .before .before .before .two .kept .1 .1 .0, c .before .before .before .before .two .kept .1 .1 .1 .0)
+
+body-returns-7 : (t : ℕ) → body-lts.Need-returns-7 (body-env t) (body-at t) body.Post
+unfolding bodyBy
+body-returns-7 t c = by-body _ _ _ _ _ _ _ _ (c .before .before .before .before .before .before .before .before .before .before .h7 .given .1) (step _ _ _ _ (c .before .before .before .before .before .before .before .before .check-binary .ensures) (step _ _ _ _ (c .before .before .before .before .before .placed7 .ensures) (c .before .before .before .before .two .ensures)))
+
+body-same-length-13 : (t : ℕ) → body-lts.Need-same-length-13 (body-env t) (body-at t) body.Post
+body-same-length-13 t c = omega (arith, c .before .before .before .before .all2 .kept .1 .1 .0, c .before .before .before .before .all2 .kept .1 .1 .1 .0)
+
+body-same-length-14 : (t : ℕ) → body-lts.Need-same-length-14 (body-env t) (body-at t) body.Post
+body-same-length-14 t c = omega (arith, c .before .before .before .before .all2 .kept .1 .1 .0, c .before .before .before .before .all2 .kept .1 .1 .1 .0)
+
+body-returns-8 : (t : ℕ) → body-lts.Need-returns-8 (body-env t) (body-at t) body.Post
+unfolding bodyBy
+body-returns-8 t c = by-body _ _ _ _ _ _ _ _ (c .before .before .before .before .before .before .before .before .before .before .h8 .given .1) (step _ _ _ _ (c .before .before .before .before .before .before .before .before .check-associative .ensures) (step _ _ _ _ (c .before .before .before .before .before .placed8 .ensures) (c .before .before .before .before .all2 .ensures)))
+
+body-same-length-15 : (t : ℕ) → body-lts.Need-same-length-15 (body-env t) (body-at t) body.Post
+body-same-length-15 t c = omega (arith, c .before .before .before .before .one .kept .1 .1 .0, c .before .before .before .before .one .kept .1 .1 .1 .0)
+
+body-same-length-16 : (t : ℕ) → body-lts.Need-same-length-16 (body-env t) (body-at t) body.Post
+body-same-length-16 t c = omega (arith, c .before .before .before .before .one .kept .1 .1 .0, c .before .before .before .before .one .kept .1 .1 .1 .0)
+
+body-returns-9 : (t : ℕ) → body-lts.Need-returns-9 (body-env t) (body-at t) body.Post
+unfolding bodyBy
+body-returns-9 t c = by-body _ _ _ _ _ _ _ _ (c .before .before .before .before .before .before .before .before .before .before .h9 .given .1) (step _ _ _ _ (c .before .before .before .before .before .before .before .before .check-unary .ensures) (step _ _ _ _ (c .before .before .before .before .before .placed9 .ensures) (c .before .before .before .before .one .ensures)))
+
+body-same-length-17 : (t : ℕ) → body-lts.Need-same-length-17 (body-env t) (body-at t) body.Post
+body-same-length-17 t c = omega (arith, c .before .before .before .before .quant .kept .1 .1 .0, c .before .before .before .before .quant .kept .1 .1 .1 .0)
+
+body-same-length-18 : (t : ℕ) → body-lts.Need-same-length-18 (body-env t) (body-at t) body.Post
+body-same-length-18 t c = omega (arith, c .before .before .before .before .quant .kept .1 .1 .0, c .before .before .before .before .quant .kept .1 .1 .1 .0)
+
+body-returns-10 : (t : ℕ) → body-lts.Need-returns-10 (body-env t) (body-at t) body.Post
+unfolding bodyBy
+body-returns-10 t c = by-body _ _ _ _ _ _ _ _ (c .before .before .before .before .before .before .before .before .h10 .given .1) (c .before .before .before .before .quant .ensures)
+
+body-same-length-19 : (t : ℕ) → body-lts.Need-same-length-19 (body-env t) (body-at t) body.Post
+body-same-length-19 t c = omega (arith, c .before .before .before .before .ascribed .kept .1 .1 .0, c .before .before .before .before .ascribed .kept .1 .1 .1 .0)
+
+body-same-length-20 : (t : ℕ) → body-lts.Need-same-length-20 (body-env t) (body-at t) body.Post
+body-same-length-20 t c = omega (arith, c .before .before .before .before .ascribed .kept .1 .1 .0, c .before .before .before .before .ascribed .kept .1 .1 .1 .0)
+
+body-returns-11 : (t : ℕ) → body-lts.Need-returns-11 (body-env t) (body-at t) body.Post
+unfolding bodyBy
+body-returns-11 t c = by-body _ _ _ _ _ _ _ _ (c .before .before .before .before .before .before .before .before .h11 .given .1) (c .before .before .before .before .ascribed .ensures)
+
+body-returns-12 : (t : ℕ) → body-lts.Need-returns-12 (body-env t) (body-at t) body.Post
+unfolding bodyBy
+body-returns-12 t c = by-body _ _ _ _ _ _ _ _ (c .before .enum-told .given .1) (step _ _ _ _ (c .stopped .ensures) refl)
 
 abbrev each-Inv-loop : each-lts.InvT-loop
-each-Inv-loop s env work₀ output₀ size left plan n v₀ y₀ i₀ work output v y i = ?
+each-Inv-loop s env work₀ output₀ size left plan n v₀ y₀ i₀ work output v y i = (childrenBy (exprOf left s env) plan i y (mach size v work output) ≡ childrenBy (exprOf left s env) plan i₀ y₀ (mach size v₀ work₀ output₀)) × (length work ≡ length work₀) × (length output ≡ length output₀)
 
 abbrev each-μ-loop : each-lts.MeasureT-loop
-each-μ-loop s env work₀ output₀ size left plan n v₀ y₀ i₀ work output v y i = ?
-
--- src/lib.rt:314:5
-each-loop-holds : (t : ℕ) → each-lts.Need-loop-holds (
-  played-with-reads.Asked,
-  played-with-reads.Learnt,
-  play-reads.Asked,
-  play-reads.Learnt,
-  expr-below t,
-  expr.Post,
-  meet-reads.Asked,
-  meet-reads.Learnt,
-  next-reads.Asked,
-  next-reads.Learnt,
-  gave-reads.Asked,
-  gave-reads.Learnt,
-) (each-at t) each.Post each-Inv-loop each-μ-loop
-each-loop-holds t c = ?
-
--- src/lib.rt:317:13
-each-played-with-requires : (t : ℕ) → each-lts.Need-played-with-requires (
-  played-with-reads.Asked,
-  played-with-reads.Learnt,
-  play-reads.Asked,
-  play-reads.Learnt,
-  expr-below t,
-  expr.Post,
-  meet-reads.Asked,
-  meet-reads.Learnt,
-  next-reads.Asked,
-  next-reads.Learnt,
-  gave-reads.Asked,
-  gave-reads.Learnt,
-) (each-at t) each.Post each-Inv-loop each-μ-loop
-each-played-with-requires t c κs = ?
-
--- src/lib.rt:318:13
-each-play-requires : (t : ℕ) → each-lts.Need-play-requires (
-  played-with-reads.Asked,
-  played-with-reads.Learnt,
-  play-reads.Asked,
-  play-reads.Learnt,
-  expr-below t,
-  expr.Post,
-  meet-reads.Asked,
-  meet-reads.Learnt,
-  next-reads.Asked,
-  next-reads.Learnt,
-  gave-reads.Asked,
-  gave-reads.Learnt,
-) (each-at t) each.Post each-Inv-loop each-μ-loop
-each-play-requires t c κs = ?
-
--- src/lib.rt:320:13
-each-expr-requires : (t : ℕ) → each-lts.Need-expr-requires (
-  played-with-reads.Asked,
-  played-with-reads.Learnt,
-  play-reads.Asked,
-  play-reads.Learnt,
-  expr-below t,
-  expr.Post,
-  meet-reads.Asked,
-  meet-reads.Learnt,
-  next-reads.Asked,
-  next-reads.Learnt,
-  gave-reads.Asked,
-  gave-reads.Learnt,
-) (each-at t) each.Post each-Inv-loop each-μ-loop
-each-expr-requires t c κs = ?
-
--- src/lib.rt:323:9
-each-meet-requires : (t : ℕ) → each-lts.Need-meet-requires (
-  played-with-reads.Asked,
-  played-with-reads.Learnt,
-  play-reads.Asked,
-  play-reads.Learnt,
-  expr-below t,
-  expr.Post,
-  meet-reads.Asked,
-  meet-reads.Learnt,
-  next-reads.Asked,
-  next-reads.Learnt,
-  gave-reads.Asked,
-  gave-reads.Learnt,
-) (each-at t) each.Post each-Inv-loop each-μ-loop
-each-meet-requires t c κs = ?
-
--- src/lib.rt:324:9
-each-next-requires : (t : ℕ) → each-lts.Need-next-requires (
-  played-with-reads.Asked,
-  played-with-reads.Learnt,
-  play-reads.Asked,
-  play-reads.Learnt,
-  expr-below t,
-  expr.Post,
-  meet-reads.Asked,
-  meet-reads.Learnt,
-  next-reads.Asked,
-  next-reads.Learnt,
-  gave-reads.Asked,
-  gave-reads.Learnt,
-) (each-at t) each.Post each-Inv-loop each-μ-loop
-each-next-requires t c κs = ?
-
--- src/lib.rt:325:9
-each-sub-i : (t : ℕ) → each-lts.Need-sub-i (
-  played-with-reads.Asked,
-  played-with-reads.Learnt,
-  play-reads.Asked,
-  play-reads.Learnt,
-  expr-below t,
-  expr.Post,
-  meet-reads.Asked,
-  meet-reads.Learnt,
-  next-reads.Asked,
-  next-reads.Learnt,
-  gave-reads.Asked,
-  gave-reads.Learnt,
-) (each-at t) each.Post each-Inv-loop each-μ-loop
-each-sub-i t c = ?
-
--- src/lib.rt:314:5
-each-loop-less : (t : ℕ) → each-lts.Need-loop-less (
-  played-with-reads.Asked,
-  played-with-reads.Learnt,
-  play-reads.Asked,
-  play-reads.Learnt,
-  expr-below t,
-  expr.Post,
-  meet-reads.Asked,
-  meet-reads.Learnt,
-  next-reads.Asked,
-  next-reads.Learnt,
-  gave-reads.Asked,
-  gave-reads.Learnt,
-) (each-at t) each.Post each-Inv-loop each-μ-loop
-each-loop-less t c = ?
-
--- src/lib.rt:314:5
-each-loop-again : (t : ℕ) → each-lts.Need-loop-again (
-  played-with-reads.Asked,
-  played-with-reads.Learnt,
-  play-reads.Asked,
-  play-reads.Learnt,
-  expr-below t,
-  expr.Post,
-  meet-reads.Asked,
-  meet-reads.Learnt,
-  next-reads.Asked,
-  next-reads.Learnt,
-  gave-reads.Asked,
-  gave-reads.Learnt,
-) (each-at t) each.Post each-Inv-loop each-μ-loop
-each-loop-again t c = ?
-
--- src/lib.rt:327:5
-each-gave-requires : (t : ℕ) → each-lts.Need-gave-requires (
-  played-with-reads.Asked,
-  played-with-reads.Learnt,
-  play-reads.Asked,
-  play-reads.Learnt,
-  expr-below t,
-  expr.Post,
-  meet-reads.Asked,
-  meet-reads.Learnt,
-  next-reads.Asked,
-  next-reads.Learnt,
-  gave-reads.Asked,
-  gave-reads.Learnt,
-) (each-at t) each.Post each-Inv-loop each-μ-loop
-each-gave-requires t c κs = ?
-
--- src/lib.rt:297:1
-each-same-length : (t : ℕ) → each-lts.Need-same-length (
-  played-with-reads.Asked,
-  played-with-reads.Learnt,
-  play-reads.Asked,
-  play-reads.Learnt,
-  expr-below t,
-  expr.Post,
-  meet-reads.Asked,
-  meet-reads.Learnt,
-  next-reads.Asked,
-  next-reads.Learnt,
-  gave-reads.Asked,
-  gave-reads.Learnt,
-) (each-at t) each.Post each-Inv-loop each-μ-loop
-each-same-length t c = ?
-
--- src/lib.rt:297:1
-each-same-length-2 : (t : ℕ) → each-lts.Need-same-length-2 (
-  played-with-reads.Asked,
-  played-with-reads.Learnt,
-  play-reads.Asked,
-  play-reads.Learnt,
-  expr-below t,
-  expr.Post,
-  meet-reads.Asked,
-  meet-reads.Learnt,
-  next-reads.Asked,
-  next-reads.Learnt,
-  gave-reads.Asked,
-  gave-reads.Learnt,
-) (each-at t) each.Post each-Inv-loop each-μ-loop
-each-same-length-2 t c = ?
-
--- src/lib.rt:297:1
-each-returns : (t : ℕ) → each-lts.Need-returns (
-  played-with-reads.Asked,
-  played-with-reads.Learnt,
-  play-reads.Asked,
-  play-reads.Learnt,
-  expr-below t,
-  expr.Post,
-  meet-reads.Asked,
-  meet-reads.Learnt,
-  next-reads.Asked,
-  next-reads.Learnt,
-  gave-reads.Asked,
-  gave-reads.Learnt,
-) (each-at t) each.Post each-Inv-loop each-μ-loop
-each-returns t c = ?
-
--- src/lib.rt:88:9
-explicit-paid-requires : (t : ℕ) → explicit-lts.Need-paid-requires (
-  paid-reads.Asked,
-  paid-reads.Learnt,
-  stopped-reads.Asked,
-  stopped-reads.Learnt,
-  placed-reads.Asked,
-  placed-reads.Learnt,
-  skip-reads.Asked,
-  skip-reads.Learnt,
-  expr-below t,
-  expr.Post,
-  meets-reads.Asked,
-  meets-reads.Learnt,
-  gave-reads.Asked,
-  gave-reads.Learnt,
-) (explicit-at t) explicit.Post
-explicit-paid-requires t c κs = ?
-
--- src/lib.rt:90:9
-explicit-returns : (t : ℕ) → explicit-lts.Need-returns (
-  paid-reads.Asked,
-  paid-reads.Learnt,
-  stopped-reads.Asked,
-  stopped-reads.Learnt,
-  placed-reads.Asked,
-  placed-reads.Learnt,
-  skip-reads.Asked,
-  skip-reads.Learnt,
-  expr-below t,
-  expr.Post,
-  meets-reads.Asked,
-  meets-reads.Learnt,
-  gave-reads.Asked,
-  gave-reads.Learnt,
-) (explicit-at t) explicit.Post
-explicit-returns t c = ?
-
--- src/lib.rt:93:9
-explicit-stopped-requires : (t : ℕ) → explicit-lts.Need-stopped-requires (
-  paid-reads.Asked,
-  paid-reads.Learnt,
-  stopped-reads.Asked,
-  stopped-reads.Learnt,
-  placed-reads.Asked,
-  placed-reads.Learnt,
-  skip-reads.Asked,
-  skip-reads.Learnt,
-  expr-below t,
-  expr.Post,
-  meets-reads.Asked,
-  meets-reads.Learnt,
-  gave-reads.Asked,
-  gave-reads.Learnt,
-) (explicit-at t) explicit.Post
-explicit-stopped-requires t c κs = ?
-
--- src/lib.rt:93:9
-explicit-returns-2 : (t : ℕ) → explicit-lts.Need-returns-2 (
-  paid-reads.Asked,
-  paid-reads.Learnt,
-  stopped-reads.Asked,
-  stopped-reads.Learnt,
-  placed-reads.Asked,
-  placed-reads.Learnt,
-  skip-reads.Asked,
-  skip-reads.Learnt,
-  expr-below t,
-  expr.Post,
-  meets-reads.Asked,
-  meets-reads.Learnt,
-  gave-reads.Asked,
-  gave-reads.Learnt,
-) (explicit-at t) explicit.Post
-explicit-returns-2 t c = ?
-
--- src/lib.rt:95:45
-explicit-placed-requires : (t : ℕ) → explicit-lts.Need-placed-requires (
-  paid-reads.Asked,
-  paid-reads.Learnt,
-  stopped-reads.Asked,
-  stopped-reads.Learnt,
-  placed-reads.Asked,
-  placed-reads.Learnt,
-  skip-reads.Asked,
-  skip-reads.Learnt,
-  expr-below t,
-  expr.Post,
-  meets-reads.Asked,
-  meets-reads.Learnt,
-  gave-reads.Asked,
-  gave-reads.Learnt,
-) (explicit-at t) explicit.Post
-explicit-placed-requires t c κs = ?
-
--- src/lib.rt:95:9
-explicit-skip-requires : (t : ℕ) → explicit-lts.Need-skip-requires (
-  paid-reads.Asked,
-  paid-reads.Learnt,
-  stopped-reads.Asked,
-  stopped-reads.Learnt,
-  placed-reads.Asked,
-  placed-reads.Learnt,
-  skip-reads.Asked,
-  skip-reads.Learnt,
-  expr-below t,
-  expr.Post,
-  meets-reads.Asked,
-  meets-reads.Learnt,
-  gave-reads.Asked,
-  gave-reads.Learnt,
-) (explicit-at t) explicit.Post
-explicit-skip-requires t c κs = ?
-
--- src/lib.rt:96:46
-explicit-sub-expr : (t : ℕ) → explicit-lts.Need-sub-expr (
-  paid-reads.Asked,
-  paid-reads.Learnt,
-  stopped-reads.Asked,
-  stopped-reads.Learnt,
-  placed-reads.Asked,
-  placed-reads.Learnt,
-  skip-reads.Asked,
-  skip-reads.Learnt,
-  expr-below t,
-  expr.Post,
-  meets-reads.Asked,
-  meets-reads.Learnt,
-  gave-reads.Asked,
-  gave-reads.Learnt,
-) (explicit-at t) explicit.Post
-explicit-sub-expr t c = ?
-
--- src/lib.rt:96:9
-explicit-expr-requires : (t : ℕ) → explicit-lts.Need-expr-requires (
-  paid-reads.Asked,
-  paid-reads.Learnt,
-  stopped-reads.Asked,
-  stopped-reads.Learnt,
-  placed-reads.Asked,
-  placed-reads.Learnt,
-  skip-reads.Asked,
-  skip-reads.Learnt,
-  expr-below t,
-  expr.Post,
-  meets-reads.Asked,
-  meets-reads.Learnt,
-  gave-reads.Asked,
-  gave-reads.Learnt,
-) (explicit-at t) explicit.Post
-explicit-expr-requires t c κs = ?
-
--- src/lib.rt:100:9
-explicit-placed-requires-2 : (t : ℕ) → explicit-lts.Need-placed-requires-2 (
-  paid-reads.Asked,
-  paid-reads.Learnt,
-  stopped-reads.Asked,
-  stopped-reads.Learnt,
-  placed-reads.Asked,
-  placed-reads.Learnt,
-  skip-reads.Asked,
-  skip-reads.Learnt,
-  expr-below t,
-  expr.Post,
-  meets-reads.Asked,
-  meets-reads.Learnt,
-  gave-reads.Asked,
-  gave-reads.Learnt,
-) (explicit-at t) explicit.Post
-explicit-placed-requires-2 t c κs = ?
-
--- src/lib.rt:101:9
-explicit-meets-requires : (t : ℕ) → explicit-lts.Need-meets-requires (
-  paid-reads.Asked,
-  paid-reads.Learnt,
-  stopped-reads.Asked,
-  stopped-reads.Learnt,
-  placed-reads.Asked,
-  placed-reads.Learnt,
-  skip-reads.Asked,
-  skip-reads.Learnt,
-  expr-below t,
-  expr.Post,
-  meets-reads.Asked,
-  meets-reads.Learnt,
-  gave-reads.Asked,
-  gave-reads.Learnt,
-) (explicit-at t) explicit.Post
-explicit-meets-requires t c κs = ?
-
--- src/lib.rt:102:22
-explicit-placed-requires-3 : (t : ℕ) → explicit-lts.Need-placed-requires-3 (
-  paid-reads.Asked,
-  paid-reads.Learnt,
-  stopped-reads.Asked,
-  stopped-reads.Learnt,
-  placed-reads.Asked,
-  placed-reads.Learnt,
-  skip-reads.Asked,
-  skip-reads.Learnt,
-  expr-below t,
-  expr.Post,
-  meets-reads.Asked,
-  meets-reads.Learnt,
-  gave-reads.Asked,
-  gave-reads.Learnt,
-) (explicit-at t) explicit.Post
-explicit-placed-requires-3 t c κs = ?
-
--- src/lib.rt:102:5
-explicit-gave-requires : (t : ℕ) → explicit-lts.Need-gave-requires (
-  paid-reads.Asked,
-  paid-reads.Learnt,
-  stopped-reads.Asked,
-  stopped-reads.Learnt,
-  placed-reads.Asked,
-  placed-reads.Learnt,
-  skip-reads.Asked,
-  skip-reads.Learnt,
-  expr-below t,
-  expr.Post,
-  meets-reads.Asked,
-  meets-reads.Learnt,
-  gave-reads.Asked,
-  gave-reads.Learnt,
-) (explicit-at t) explicit.Post
-explicit-gave-requires t c κs = ?
-
--- src/lib.rt:76:1
-explicit-same-length : (t : ℕ) → explicit-lts.Need-same-length (
-  paid-reads.Asked,
-  paid-reads.Learnt,
-  stopped-reads.Asked,
-  stopped-reads.Learnt,
-  placed-reads.Asked,
-  placed-reads.Learnt,
-  skip-reads.Asked,
-  skip-reads.Learnt,
-  expr-below t,
-  expr.Post,
-  meets-reads.Asked,
-  meets-reads.Learnt,
-  gave-reads.Asked,
-  gave-reads.Learnt,
-) (explicit-at t) explicit.Post
-explicit-same-length t c = ?
-
--- src/lib.rt:76:1
-explicit-same-length-2 : (t : ℕ) → explicit-lts.Need-same-length-2 (
-  paid-reads.Asked,
-  paid-reads.Learnt,
-  stopped-reads.Asked,
-  stopped-reads.Learnt,
-  placed-reads.Asked,
-  placed-reads.Learnt,
-  skip-reads.Asked,
-  skip-reads.Learnt,
-  expr-below t,
-  expr.Post,
-  meets-reads.Asked,
-  meets-reads.Learnt,
-  gave-reads.Asked,
-  gave-reads.Learnt,
-) (explicit-at t) explicit.Post
-explicit-same-length-2 t c = ?
-
--- src/lib.rt:76:1
-explicit-returns-3 : (t : ℕ) → explicit-lts.Need-returns-3 (
-  paid-reads.Asked,
-  paid-reads.Learnt,
-  stopped-reads.Asked,
-  stopped-reads.Learnt,
-  placed-reads.Asked,
-  placed-reads.Learnt,
-  skip-reads.Asked,
-  skip-reads.Learnt,
-  expr-below t,
-  expr.Post,
-  meets-reads.Asked,
-  meets-reads.Learnt,
-  gave-reads.Asked,
-  gave-reads.Learnt,
-) (explicit-at t) explicit.Post
-explicit-returns-3 t c = ?
-
--- src/lib.rt:66:11
-expr-expr-head-requires : (t : ℕ) → expr-lts.Need-expr-head-requires (
-  expr-head-reads.Asked,
-  expr-head-reads.Learnt,
-  stopped-reads.Asked,
-  stopped-reads.Learnt,
-  explicit-below t,
-  explicit.Post,
-  owned-below t,
-  owned.Post,
-) (expr-at t) expr.Post
-expr-expr-head-requires t c κs = ?
-
--- src/lib.rt:67:26
-expr-enum-told : (t : ℕ) → expr-lts.Need-enum-told (
-  expr-head-reads.Asked,
-  expr-head-reads.Learnt,
-  stopped-reads.Asked,
-  stopped-reads.Learnt,
-  explicit-below t,
-  explicit.Post,
-  owned-below t,
-  owned.Post,
-) (expr-at t) expr.Post
-expr-enum-told t c = ?
-
--- src/lib.rt:67:26
-expr-stopped-requires : (t : ℕ) → expr-lts.Need-stopped-requires (
-  expr-head-reads.Asked,
-  expr-head-reads.Learnt,
-  stopped-reads.Asked,
-  stopped-reads.Learnt,
-  explicit-below t,
-  explicit.Post,
-  owned-below t,
-  owned.Post,
-) (expr-at t) expr.Post
-expr-stopped-requires t c κs = ?
-
--- src/lib.rt:68:20
-expr-enum-known-h : (t : ℕ) → expr-lts.Need-enum-known-h (
-  expr-head-reads.Asked,
-  expr-head-reads.Learnt,
-  stopped-reads.Asked,
-  stopped-reads.Learnt,
-  explicit-below t,
-  explicit.Post,
-  owned-below t,
-  owned.Post,
-) (expr-at t) expr.Post
-expr-enum-known-h t c = ?
-
--- src/lib.rt:69:32
-expr-enum-known-h-2 : (t : ℕ) → expr-lts.Need-enum-known-h-2 (
-  expr-head-reads.Asked,
-  expr-head-reads.Learnt,
-  stopped-reads.Asked,
-  stopped-reads.Learnt,
-  explicit-below t,
-  explicit.Post,
-  owned-below t,
-  owned.Post,
-) (expr-at t) expr.Post
-expr-enum-known-h-2 t c = ?
-
--- src/lib.rt:69:38
-expr-explicit-requires : (t : ℕ) → expr-lts.Need-explicit-requires (
-  expr-head-reads.Asked,
-  expr-head-reads.Learnt,
-  stopped-reads.Asked,
-  stopped-reads.Learnt,
-  explicit-below t,
-  explicit.Post,
-  owned-below t,
-  owned.Post,
-) (expr-at t) expr.Post
-expr-explicit-requires t c κs = ?
-
--- src/lib.rt:70:18
-expr-owned-requires : (t : ℕ) → expr-lts.Need-owned-requires (
-  expr-head-reads.Asked,
-  expr-head-reads.Learnt,
-  stopped-reads.Asked,
-  stopped-reads.Learnt,
-  explicit-below t,
-  explicit.Post,
-  owned-below t,
-  owned.Post,
-) (expr-at t) expr.Post
-expr-owned-requires t c κs = ?
-
--- src/lib.rt:55:1
-expr-returns : (t : ℕ) → expr-lts.Need-returns (
-  expr-head-reads.Asked,
-  expr-head-reads.Learnt,
-  stopped-reads.Asked,
-  stopped-reads.Learnt,
-  explicit-below t,
-  explicit.Post,
-  owned-below t,
-  owned.Post,
-) (expr-at t) expr.Post
-expr-returns t c = ?
-
--- src/lib.rt:55:1
-expr-same-length : (t : ℕ) → expr-lts.Need-same-length (
-  expr-head-reads.Asked,
-  expr-head-reads.Learnt,
-  stopped-reads.Asked,
-  stopped-reads.Learnt,
-  explicit-below t,
-  explicit.Post,
-  owned-below t,
-  owned.Post,
-) (expr-at t) expr.Post
-expr-same-length t c = ?
-
--- src/lib.rt:55:1
-expr-same-length-2 : (t : ℕ) → expr-lts.Need-same-length-2 (
-  expr-head-reads.Asked,
-  expr-head-reads.Learnt,
-  stopped-reads.Asked,
-  stopped-reads.Learnt,
-  explicit-below t,
-  explicit.Post,
-  owned-below t,
-  owned.Post,
-) (expr-at t) expr.Post
-expr-same-length-2 t c = ?
-
--- src/lib.rt:55:1
-expr-returns-2 : (t : ℕ) → expr-lts.Need-returns-2 (
-  expr-head-reads.Asked,
-  expr-head-reads.Learnt,
-  stopped-reads.Asked,
-  stopped-reads.Learnt,
-  explicit-below t,
-  explicit.Post,
-  owned-below t,
-  owned.Post,
-) (expr-at t) expr.Post
-expr-returns-2 t c = ?
-
--- src/lib.rt:55:1
-expr-same-length-3 : (t : ℕ) → expr-lts.Need-same-length-3 (
-  expr-head-reads.Asked,
-  expr-head-reads.Learnt,
-  stopped-reads.Asked,
-  stopped-reads.Learnt,
-  explicit-below t,
-  explicit.Post,
-  owned-below t,
-  owned.Post,
-) (expr-at t) expr.Post
-expr-same-length-3 t c = ?
-
--- src/lib.rt:55:1
-expr-same-length-4 : (t : ℕ) → expr-lts.Need-same-length-4 (
-  expr-head-reads.Asked,
-  expr-head-reads.Learnt,
-  stopped-reads.Asked,
-  stopped-reads.Learnt,
-  explicit-below t,
-  explicit.Post,
-  owned-below t,
-  owned.Post,
-) (expr-at t) expr.Post
-expr-same-length-4 t c = ?
-
--- src/lib.rt:55:1
-expr-returns-3 : (t : ℕ) → expr-lts.Need-returns-3 (
-  expr-head-reads.Asked,
-  expr-head-reads.Learnt,
-  stopped-reads.Asked,
-  stopped-reads.Learnt,
-  explicit-below t,
-  explicit.Post,
-  owned-below t,
-  owned.Post,
-) (expr-at t) expr.Post
-expr-returns-3 t c = ?
-
--- src/lib.rt:218:9
-one-expr-requires : (t : ℕ) → one-lts.Need-expr-requires (
-  expr-below t,
-  expr.Post,
-  played-with-reads.Asked,
-  played-with-reads.Learnt,
-  play-reads.Asked,
-  play-reads.Learnt,
-) (one-at t) one.Post
-one-expr-requires t c κs = ?
-
--- src/lib.rt:221:9
-one-played-with-requires : (t : ℕ) → one-lts.Need-played-with-requires (
-  expr-below t,
-  expr.Post,
-  played-with-reads.Asked,
-  played-with-reads.Learnt,
-  play-reads.Asked,
-  play-reads.Learnt,
-) (one-at t) one.Post
-one-played-with-requires t c κs = ?
-
--- src/lib.rt:222:5
-one-play-requires : (t : ℕ) → one-lts.Need-play-requires (
-  expr-below t,
-  expr.Post,
-  played-with-reads.Asked,
-  played-with-reads.Learnt,
-  play-reads.Asked,
-  play-reads.Learnt,
-) (one-at t) one.Post
-one-play-requires t c κs = ?
-
--- src/lib.rt:205:1
-one-same-length : (t : ℕ) → one-lts.Need-same-length (
-  expr-below t,
-  expr.Post,
-  played-with-reads.Asked,
-  played-with-reads.Learnt,
-  play-reads.Asked,
-  play-reads.Learnt,
-) (one-at t) one.Post
-one-same-length t c = ?
-
--- src/lib.rt:205:1
-one-same-length-2 : (t : ℕ) → one-lts.Need-same-length-2 (
-  expr-below t,
-  expr.Post,
-  played-with-reads.Asked,
-  played-with-reads.Learnt,
-  play-reads.Asked,
-  play-reads.Learnt,
-) (one-at t) one.Post
-one-same-length-2 t c = ?
-
--- src/lib.rt:205:1
-one-returns : (t : ℕ) → one-lts.Need-returns (
-  expr-below t,
-  expr.Post,
-  played-with-reads.Asked,
-  played-with-reads.Learnt,
-  play-reads.Asked,
-  play-reads.Learnt,
-) (one-at t) one.Post
-one-returns t c = ?
-
--- src/lib.rt:120:9
-owned-enter-requires : (t : ℕ) → owned-lts.Need-enter-requires (
-  enter-reads.Asked,
-  enter-reads.Learnt,
-  stopped-reads.Asked,
-  stopped-reads.Learnt,
-  body-below t,
-  body.Post,
-  leave-reads.Asked,
-  leave-reads.Learnt,
-) (owned-at t) owned.Post
-owned-enter-requires t c κs = ?
-
--- src/lib.rt:122:9
-owned-returns : (t : ℕ) → owned-lts.Need-returns (
-  enter-reads.Asked,
-  enter-reads.Learnt,
-  stopped-reads.Asked,
-  stopped-reads.Learnt,
-  body-below t,
-  body.Post,
-  leave-reads.Asked,
-  leave-reads.Learnt,
-) (owned-at t) owned.Post
-owned-returns t c = ?
-
--- src/lib.rt:125:9
-owned-stopped-requires : (t : ℕ) → owned-lts.Need-stopped-requires (
-  enter-reads.Asked,
-  enter-reads.Learnt,
-  stopped-reads.Asked,
-  stopped-reads.Learnt,
-  body-below t,
-  body.Post,
-  leave-reads.Asked,
-  leave-reads.Learnt,
-) (owned-at t) owned.Post
-owned-stopped-requires t c κs = ?
-
--- src/lib.rt:125:9
-owned-returns-2 : (t : ℕ) → owned-lts.Need-returns-2 (
-  enter-reads.Asked,
-  enter-reads.Learnt,
-  stopped-reads.Asked,
-  stopped-reads.Learnt,
-  body-below t,
-  body.Post,
-  leave-reads.Asked,
-  leave-reads.Learnt,
-) (owned-at t) owned.Post
-owned-returns-2 t c = ?
-
--- src/lib.rt:127:46
-owned-sub-body : (t : ℕ) → owned-lts.Need-sub-body (
-  enter-reads.Asked,
-  enter-reads.Learnt,
-  stopped-reads.Asked,
-  stopped-reads.Learnt,
-  body-below t,
-  body.Post,
-  leave-reads.Asked,
-  leave-reads.Learnt,
-) (owned-at t) owned.Post
-owned-sub-body t c = ?
-
--- src/lib.rt:127:9
-owned-body-requires : (t : ℕ) → owned-lts.Need-body-requires (
-  enter-reads.Asked,
-  enter-reads.Learnt,
-  stopped-reads.Asked,
-  stopped-reads.Learnt,
-  body-below t,
-  body.Post,
-  leave-reads.Asked,
-  leave-reads.Learnt,
-) (owned-at t) owned.Post
-owned-body-requires t c κs = ?
-
--- src/lib.rt:128:5
-owned-leave-requires : (t : ℕ) → owned-lts.Need-leave-requires (
-  enter-reads.Asked,
-  enter-reads.Learnt,
-  stopped-reads.Asked,
-  stopped-reads.Learnt,
-  body-below t,
-  body.Post,
-  leave-reads.Asked,
-  leave-reads.Learnt,
-) (owned-at t) owned.Post
-owned-leave-requires t c κs = ?
-
--- src/lib.rt:106:1
-owned-same-length : (t : ℕ) → owned-lts.Need-same-length (
-  enter-reads.Asked,
-  enter-reads.Learnt,
-  stopped-reads.Asked,
-  stopped-reads.Learnt,
-  body-below t,
-  body.Post,
-  leave-reads.Asked,
-  leave-reads.Learnt,
-) (owned-at t) owned.Post
-owned-same-length t c = ?
-
--- src/lib.rt:106:1
-owned-same-length-2 : (t : ℕ) → owned-lts.Need-same-length-2 (
-  enter-reads.Asked,
-  enter-reads.Learnt,
-  stopped-reads.Asked,
-  stopped-reads.Learnt,
-  body-below t,
-  body.Post,
-  leave-reads.Asked,
-  leave-reads.Learnt,
-) (owned-at t) owned.Post
-owned-same-length-2 t c = ?
-
--- src/lib.rt:106:1
-owned-returns-3 : (t : ℕ) → owned-lts.Need-returns-3 (
-  enter-reads.Asked,
-  enter-reads.Learnt,
-  stopped-reads.Asked,
-  stopped-reads.Learnt,
-  body-below t,
-  body.Post,
-  leave-reads.Asked,
-  leave-reads.Learnt,
-) (owned-at t) owned.Post
-owned-returns-3 t c = ?
-
--- src/lib.rt:396:28
-pbody-enum-known-h : (t : ℕ) → pbody-lts.Need-enum-known-h (
-  placed-reads.Asked,
-  placed-reads.Learnt,
-  check-relational-reads.Asked,
-  check-relational-reads.Learnt,
-  two-below t,
-  two.Post,
-  preds-below t,
-  preds.Post,
-  pred-below t,
-  pred.Post,
-  pquant-below t,
-  pquant.Post,
-  one-below t,
-  one.Post,
-  all-below t,
-  all.Post,
-  list-reads.Asked,
-  list-reads.Learnt,
-) (pbody-at t) pbody.Post
-pbody-enum-known-h t c = ?
-
--- src/lib.rt:396:34
-pbody-placed-requires : (t : ℕ) → pbody-lts.Need-placed-requires (
-  placed-reads.Asked,
-  placed-reads.Learnt,
-  check-relational-reads.Asked,
-  check-relational-reads.Learnt,
-  two-below t,
-  two.Post,
-  preds-below t,
-  preds.Post,
-  pred-below t,
-  pred.Post,
-  pquant-below t,
-  pquant.Post,
-  one-below t,
-  one.Post,
-  all-below t,
-  all.Post,
-  list-reads.Asked,
-  list-reads.Learnt,
-) (pbody-at t) pbody.Post
-pbody-placed-requires t c κs = ?
-
--- src/lib.rt:397:28
-pbody-enum-known-h-2 : (t : ℕ) → pbody-lts.Need-enum-known-h-2 (
-  placed-reads.Asked,
-  placed-reads.Learnt,
-  check-relational-reads.Asked,
-  check-relational-reads.Learnt,
-  two-below t,
-  two.Post,
-  preds-below t,
-  preds.Post,
-  pred-below t,
-  pred.Post,
-  pquant-below t,
-  pquant.Post,
-  one-below t,
-  one.Post,
-  all-below t,
-  all.Post,
-  list-reads.Asked,
-  list-reads.Learnt,
-) (pbody-at t) pbody.Post
-pbody-enum-known-h-2 t c = ?
-
--- src/lib.rt:397:34
-pbody-placed-requires-2 : (t : ℕ) → pbody-lts.Need-placed-requires-2 (
-  placed-reads.Asked,
-  placed-reads.Learnt,
-  check-relational-reads.Asked,
-  check-relational-reads.Learnt,
-  two-below t,
-  two.Post,
-  preds-below t,
-  preds.Post,
-  pred-below t,
-  pred.Post,
-  pquant-below t,
-  pquant.Post,
-  one-below t,
-  one.Post,
-  all-below t,
-  all.Post,
-  list-reads.Asked,
-  list-reads.Learnt,
-) (pbody-at t) pbody.Post
-pbody-placed-requires-2 t c κs = ?
-
--- src/lib.rt:398:30
-pbody-enum-known-h-3 : (t : ℕ) → pbody-lts.Need-enum-known-h-3 (
-  placed-reads.Asked,
-  placed-reads.Learnt,
-  check-relational-reads.Asked,
-  check-relational-reads.Learnt,
-  two-below t,
-  two.Post,
-  preds-below t,
-  preds.Post,
-  pred-below t,
-  pred.Post,
-  pquant-below t,
-  pquant.Post,
-  one-below t,
-  one.Post,
-  all-below t,
-  all.Post,
-  list-reads.Asked,
-  list-reads.Learnt,
-) (pbody-at t) pbody.Post
-pbody-enum-known-h-3 t c = ?
-
--- src/lib.rt:399:17
-pbody-check-relational-requires : (t : ℕ) → pbody-lts.Need-check-relational-requires (
-  placed-reads.Asked,
-  placed-reads.Learnt,
-  check-relational-reads.Asked,
-  check-relational-reads.Learnt,
-  two-below t,
-  two.Post,
-  preds-below t,
-  preds.Post,
-  pred-below t,
-  pred.Post,
-  pquant-below t,
-  pquant.Post,
-  one-below t,
-  one.Post,
-  all-below t,
-  all.Post,
-  list-reads.Asked,
-  list-reads.Learnt,
-) (pbody-at t) pbody.Post
-pbody-check-relational-requires t c κs = ?
-
--- src/lib.rt:400:58
-pbody-placed-requires-3 : (t : ℕ) → pbody-lts.Need-placed-requires-3 (
-  placed-reads.Asked,
-  placed-reads.Learnt,
-  check-relational-reads.Asked,
-  check-relational-reads.Learnt,
-  two-below t,
-  two.Post,
-  preds-below t,
-  preds.Post,
-  pred-below t,
-  pred.Post,
-  pquant-below t,
-  pquant.Post,
-  one-below t,
-  one.Post,
-  all-below t,
-  all.Post,
-  list-reads.Asked,
-  list-reads.Learnt,
-) (pbody-at t) pbody.Post
-pbody-placed-requires-3 t c κs = ?
-
--- src/lib.rt:400:13
-pbody-two-requires : (t : ℕ) → pbody-lts.Need-two-requires (
-  placed-reads.Asked,
-  placed-reads.Learnt,
-  check-relational-reads.Asked,
-  check-relational-reads.Learnt,
-  two-below t,
-  two.Post,
-  preds-below t,
-  preds.Post,
-  pred-below t,
-  pred.Post,
-  pquant-below t,
-  pquant.Post,
-  one-below t,
-  one.Post,
-  all-below t,
-  all.Post,
-  list-reads.Asked,
-  list-reads.Learnt,
-) (pbody-at t) pbody.Post
-pbody-two-requires t c κs = ?
-
--- src/lib.rt:402:30
-pbody-enum-known-h-4 : (t : ℕ) → pbody-lts.Need-enum-known-h-4 (
-  placed-reads.Asked,
-  placed-reads.Learnt,
-  check-relational-reads.Asked,
-  check-relational-reads.Learnt,
-  two-below t,
-  two.Post,
-  preds-below t,
-  preds.Post,
-  pred-below t,
-  pred.Post,
-  pquant-below t,
-  pquant.Post,
-  one-below t,
-  one.Post,
-  all-below t,
-  all.Post,
-  list-reads.Asked,
-  list-reads.Learnt,
-) (pbody-at t) pbody.Post
-pbody-enum-known-h-4 t c = ?
-
--- src/lib.rt:403:56
-pbody-placed-requires-4 : (t : ℕ) → pbody-lts.Need-placed-requires-4 (
-  placed-reads.Asked,
-  placed-reads.Learnt,
-  check-relational-reads.Asked,
-  check-relational-reads.Learnt,
-  two-below t,
-  two.Post,
-  preds-below t,
-  preds.Post,
-  pred-below t,
-  pred.Post,
-  pquant-below t,
-  pquant.Post,
-  one-below t,
-  one.Post,
-  all-below t,
-  all.Post,
-  list-reads.Asked,
-  list-reads.Learnt,
-) (pbody-at t) pbody.Post
-pbody-placed-requires-4 t c κs = ?
-
--- src/lib.rt:403:13
-pbody-preds-requires : (t : ℕ) → pbody-lts.Need-preds-requires (
-  placed-reads.Asked,
-  placed-reads.Learnt,
-  check-relational-reads.Asked,
-  check-relational-reads.Learnt,
-  two-below t,
-  two.Post,
-  preds-below t,
-  preds.Post,
-  pred-below t,
-  pred.Post,
-  pquant-below t,
-  pquant.Post,
-  one-below t,
-  one.Post,
-  all-below t,
-  all.Post,
-  list-reads.Asked,
-  list-reads.Learnt,
-) (pbody-at t) pbody.Post
-pbody-preds-requires t c κs = ?
-
--- src/lib.rt:405:28
-pbody-enum-known-h-5 : (t : ℕ) → pbody-lts.Need-enum-known-h-5 (
-  placed-reads.Asked,
-  placed-reads.Learnt,
-  check-relational-reads.Asked,
-  check-relational-reads.Learnt,
-  two-below t,
-  two.Post,
-  preds-below t,
-  preds.Post,
-  pred-below t,
-  pred.Post,
-  pquant-below t,
-  pquant.Post,
-  one-below t,
-  one.Post,
-  all-below t,
-  all.Post,
-  list-reads.Asked,
-  list-reads.Learnt,
-) (pbody-at t) pbody.Post
-pbody-enum-known-h-5 t c = ?
-
--- src/lib.rt:406:56
-pbody-placed-requires-5 : (t : ℕ) → pbody-lts.Need-placed-requires-5 (
-  placed-reads.Asked,
-  placed-reads.Learnt,
-  check-relational-reads.Asked,
-  check-relational-reads.Learnt,
-  two-below t,
-  two.Post,
-  preds-below t,
-  preds.Post,
-  pred-below t,
-  pred.Post,
-  pquant-below t,
-  pquant.Post,
-  one-below t,
-  one.Post,
-  all-below t,
-  all.Post,
-  list-reads.Asked,
-  list-reads.Learnt,
-) (pbody-at t) pbody.Post
-pbody-placed-requires-5 t c κs = ?
-
--- src/lib.rt:406:13
-pbody-preds-requires-2 : (t : ℕ) → pbody-lts.Need-preds-requires-2 (
-  placed-reads.Asked,
-  placed-reads.Learnt,
-  check-relational-reads.Asked,
-  check-relational-reads.Learnt,
-  two-below t,
-  two.Post,
-  preds-below t,
-  preds.Post,
-  pred-below t,
-  pred.Post,
-  pquant-below t,
-  pquant.Post,
-  one-below t,
-  one.Post,
-  all-below t,
-  all.Post,
-  list-reads.Asked,
-  list-reads.Learnt,
-) (pbody-at t) pbody.Post
-pbody-preds-requires-2 t c κs = ?
-
--- src/lib.rt:408:28
-pbody-enum-known-h-6 : (t : ℕ) → pbody-lts.Need-enum-known-h-6 (
-  placed-reads.Asked,
-  placed-reads.Learnt,
-  check-relational-reads.Asked,
-  check-relational-reads.Learnt,
-  two-below t,
-  two.Post,
-  preds-below t,
-  preds.Post,
-  pred-below t,
-  pred.Post,
-  pquant-below t,
-  pquant.Post,
-  one-below t,
-  one.Post,
-  all-below t,
-  all.Post,
-  list-reads.Asked,
-  list-reads.Learnt,
-) (pbody-at t) pbody.Post
-pbody-enum-known-h-6 t c = ?
-
--- src/lib.rt:408:73
-pbody-placed-requires-6 : (t : ℕ) → pbody-lts.Need-placed-requires-6 (
-  placed-reads.Asked,
-  placed-reads.Learnt,
-  check-relational-reads.Asked,
-  check-relational-reads.Learnt,
-  two-below t,
-  two.Post,
-  preds-below t,
-  preds.Post,
-  pred-below t,
-  pred.Post,
-  pquant-below t,
-  pquant.Post,
-  one-below t,
-  one.Post,
-  all-below t,
-  all.Post,
-  list-reads.Asked,
-  list-reads.Learnt,
-) (pbody-at t) pbody.Post
-pbody-placed-requires-6 t c κs = ?
-
--- src/lib.rt:408:34
-pbody-pred-requires : (t : ℕ) → pbody-lts.Need-pred-requires (
-  placed-reads.Asked,
-  placed-reads.Learnt,
-  check-relational-reads.Asked,
-  check-relational-reads.Learnt,
-  two-below t,
-  two.Post,
-  preds-below t,
-  preds.Post,
-  pred-below t,
-  pred.Post,
-  pquant-below t,
-  pquant.Post,
-  one-below t,
-  one.Post,
-  all-below t,
-  all.Post,
-  list-reads.Asked,
-  list-reads.Learnt,
-) (pbody-at t) pbody.Post
-pbody-pred-requires t c κs = ?
-
--- src/lib.rt:409:34
-pbody-enum-known-h-7 : (t : ℕ) → pbody-lts.Need-enum-known-h-7 (
-  placed-reads.Asked,
-  placed-reads.Learnt,
-  check-relational-reads.Asked,
-  check-relational-reads.Learnt,
-  two-below t,
-  two.Post,
-  preds-below t,
-  preds.Post,
-  pred-below t,
-  pred.Post,
-  pquant-below t,
-  pquant.Post,
-  one-below t,
-  one.Post,
-  all-below t,
-  all.Post,
-  list-reads.Asked,
-  list-reads.Learnt,
-) (pbody-at t) pbody.Post
-pbody-enum-known-h-7 t c = ?
-
--- src/lib.rt:409:43
-pbody-pquant-requires : (t : ℕ) → pbody-lts.Need-pquant-requires (
-  placed-reads.Asked,
-  placed-reads.Learnt,
-  check-relational-reads.Asked,
-  check-relational-reads.Learnt,
-  two-below t,
-  two.Post,
-  preds-below t,
-  preds.Post,
-  pred-below t,
-  pred.Post,
-  pquant-below t,
-  pquant.Post,
-  one-below t,
-  one.Post,
-  all-below t,
-  all.Post,
-  list-reads.Asked,
-  list-reads.Learnt,
-) (pbody-at t) pbody.Post
-pbody-pquant-requires t c κs = ?
-
--- src/lib.rt:410:26
-pbody-enum-known-h-8 : (t : ℕ) → pbody-lts.Need-enum-known-h-8 (
-  placed-reads.Asked,
-  placed-reads.Learnt,
-  check-relational-reads.Asked,
-  check-relational-reads.Learnt,
-  two-below t,
-  two.Post,
-  preds-below t,
-  preds.Post,
-  pred-below t,
-  pred.Post,
-  pquant-below t,
-  pquant.Post,
-  one-below t,
-  one.Post,
-  all-below t,
-  all.Post,
-  list-reads.Asked,
-  list-reads.Learnt,
-) (pbody-at t) pbody.Post
-pbody-enum-known-h-8 t c = ?
-
--- src/lib.rt:411:17
-pbody-placed-requires-7 : (t : ℕ) → pbody-lts.Need-placed-requires-7 (
-  placed-reads.Asked,
-  placed-reads.Learnt,
-  check-relational-reads.Asked,
-  check-relational-reads.Learnt,
-  two-below t,
-  two.Post,
-  preds-below t,
-  preds.Post,
-  pred-below t,
-  pred.Post,
-  pquant-below t,
-  pquant.Post,
-  one-below t,
-  one.Post,
-  all-below t,
-  all.Post,
-  list-reads.Asked,
-  list-reads.Learnt,
-) (pbody-at t) pbody.Post
-pbody-placed-requires-7 t c κs = ?
-
--- src/lib.rt:412:13
-pbody-one-requires : (t : ℕ) → pbody-lts.Need-one-requires (
-  placed-reads.Asked,
-  placed-reads.Learnt,
-  check-relational-reads.Asked,
-  check-relational-reads.Learnt,
-  two-below t,
-  two.Post,
-  preds-below t,
-  preds.Post,
-  pred-below t,
-  pred.Post,
-  pquant-below t,
-  pquant.Post,
-  one-below t,
-  one.Post,
-  all-below t,
-  all.Post,
-  list-reads.Asked,
-  list-reads.Learnt,
-) (pbody-at t) pbody.Post
-pbody-one-requires t c κs = ?
-
--- src/lib.rt:414:28
-pbody-enum-known-h-9 : (t : ℕ) → pbody-lts.Need-enum-known-h-9 (
-  placed-reads.Asked,
-  placed-reads.Learnt,
-  check-relational-reads.Asked,
-  check-relational-reads.Learnt,
-  two-below t,
-  two.Post,
-  preds-below t,
-  preds.Post,
-  pred-below t,
-  pred.Post,
-  pquant-below t,
-  pquant.Post,
-  one-below t,
-  one.Post,
-  all-below t,
-  all.Post,
-  list-reads.Asked,
-  list-reads.Learnt,
-) (pbody-at t) pbody.Post
-pbody-enum-known-h-9 t c = ?
-
--- src/lib.rt:415:64
-pbody-placed-requires-8 : (t : ℕ) → pbody-lts.Need-placed-requires-8 (
-  placed-reads.Asked,
-  placed-reads.Learnt,
-  check-relational-reads.Asked,
-  check-relational-reads.Learnt,
-  two-below t,
-  two.Post,
-  preds-below t,
-  preds.Post,
-  pred-below t,
-  pred.Post,
-  pquant-below t,
-  pquant.Post,
-  one-below t,
-  one.Post,
-  all-below t,
-  all.Post,
-  list-reads.Asked,
-  list-reads.Learnt,
-) (pbody-at t) pbody.Post
-pbody-placed-requires-8 t c κs = ?
-
--- src/lib.rt:415:13
-pbody-all-requires : (t : ℕ) → pbody-lts.Need-all-requires (
-  placed-reads.Asked,
-  placed-reads.Learnt,
-  check-relational-reads.Asked,
-  check-relational-reads.Learnt,
-  two-below t,
-  two.Post,
-  preds-below t,
-  preds.Post,
-  pred-below t,
-  pred.Post,
-  pquant-below t,
-  pquant.Post,
-  one-below t,
-  one.Post,
-  all-below t,
-  all.Post,
-  list-reads.Asked,
-  list-reads.Learnt,
-) (pbody-at t) pbody.Post
-pbody-all-requires t c κs = ?
-
--- src/lib.rt:417:31
-pbody-enum-known-h-10 : (t : ℕ) → pbody-lts.Need-enum-known-h-10 (
-  placed-reads.Asked,
-  placed-reads.Learnt,
-  check-relational-reads.Asked,
-  check-relational-reads.Learnt,
-  two-below t,
-  two.Post,
-  preds-below t,
-  preds.Post,
-  pred-below t,
-  pred.Post,
-  pquant-below t,
-  pquant.Post,
-  one-below t,
-  one.Post,
-  all-below t,
-  all.Post,
-  list-reads.Asked,
-  list-reads.Learnt,
-) (pbody-at t) pbody.Post
-pbody-enum-known-h-10 t c = ?
-
--- src/lib.rt:418:17
-pbody-placed-requires-9 : (t : ℕ) → pbody-lts.Need-placed-requires-9 (
-  placed-reads.Asked,
-  placed-reads.Learnt,
-  check-relational-reads.Asked,
-  check-relational-reads.Learnt,
-  two-below t,
-  two.Post,
-  preds-below t,
-  preds.Post,
-  pred-below t,
-  pred.Post,
-  pquant-below t,
-  pquant.Post,
-  one-below t,
-  one.Post,
-  all-below t,
-  all.Post,
-  list-reads.Asked,
-  list-reads.Learnt,
-) (pbody-at t) pbody.Post
-pbody-placed-requires-9 t c κs = ?
-
--- src/lib.rt:419:17
-pbody-all-requires-2 : (t : ℕ) → pbody-lts.Need-all-requires-2 (
-  placed-reads.Asked,
-  placed-reads.Learnt,
-  check-relational-reads.Asked,
-  check-relational-reads.Learnt,
-  two-below t,
-  two.Post,
-  preds-below t,
-  preds.Post,
-  pred-below t,
-  pred.Post,
-  pquant-below t,
-  pquant.Post,
-  one-below t,
-  one.Post,
-  all-below t,
-  all.Post,
-  list-reads.Asked,
-  list-reads.Learnt,
-) (pbody-at t) pbody.Post
-pbody-all-requires-2 t c κs = ?
-
--- src/lib.rt:420:13
-pbody-list-requires : (t : ℕ) → pbody-lts.Need-list-requires (
-  placed-reads.Asked,
-  placed-reads.Learnt,
-  check-relational-reads.Asked,
-  check-relational-reads.Learnt,
-  two-below t,
-  two.Post,
-  preds-below t,
-  preds.Post,
-  pred-below t,
-  pred.Post,
-  pquant-below t,
-  pquant.Post,
-  one-below t,
-  one.Post,
-  all-below t,
-  all.Post,
-  list-reads.Asked,
-  list-reads.Learnt,
-) (pbody-at t) pbody.Post
-pbody-list-requires t c κs = ?
-
--- src/lib.rt:382:1
-pbody-returns : (t : ℕ) → pbody-lts.Need-returns (
-  placed-reads.Asked,
-  placed-reads.Learnt,
-  check-relational-reads.Asked,
-  check-relational-reads.Learnt,
-  two-below t,
-  two.Post,
-  preds-below t,
-  preds.Post,
-  pred-below t,
-  pred.Post,
-  pquant-below t,
-  pquant.Post,
-  one-below t,
-  one.Post,
-  all-below t,
-  all.Post,
-  list-reads.Asked,
-  list-reads.Learnt,
-) (pbody-at t) pbody.Post
-pbody-returns t c = ?
-
--- src/lib.rt:382:1
-pbody-returns-2 : (t : ℕ) → pbody-lts.Need-returns-2 (
-  placed-reads.Asked,
-  placed-reads.Learnt,
-  check-relational-reads.Asked,
-  check-relational-reads.Learnt,
-  two-below t,
-  two.Post,
-  preds-below t,
-  preds.Post,
-  pred-below t,
-  pred.Post,
-  pquant-below t,
-  pquant.Post,
-  one-below t,
-  one.Post,
-  all-below t,
-  all.Post,
-  list-reads.Asked,
-  list-reads.Learnt,
-) (pbody-at t) pbody.Post
-pbody-returns-2 t c = ?
-
--- src/lib.rt:382:1
-pbody-same-length : (t : ℕ) → pbody-lts.Need-same-length (
-  placed-reads.Asked,
-  placed-reads.Learnt,
-  check-relational-reads.Asked,
-  check-relational-reads.Learnt,
-  two-below t,
-  two.Post,
-  preds-below t,
-  preds.Post,
-  pred-below t,
-  pred.Post,
-  pquant-below t,
-  pquant.Post,
-  one-below t,
-  one.Post,
-  all-below t,
-  all.Post,
-  list-reads.Asked,
-  list-reads.Learnt,
-) (pbody-at t) pbody.Post
-pbody-same-length t c = ?
-
--- src/lib.rt:382:1
-pbody-same-length-2 : (t : ℕ) → pbody-lts.Need-same-length-2 (
-  placed-reads.Asked,
-  placed-reads.Learnt,
-  check-relational-reads.Asked,
-  check-relational-reads.Learnt,
-  two-below t,
-  two.Post,
-  preds-below t,
-  preds.Post,
-  pred-below t,
-  pred.Post,
-  pquant-below t,
-  pquant.Post,
-  one-below t,
-  one.Post,
-  all-below t,
-  all.Post,
-  list-reads.Asked,
-  list-reads.Learnt,
-) (pbody-at t) pbody.Post
-pbody-same-length-2 t c = ?
-
--- src/lib.rt:382:1
-pbody-returns-3 : (t : ℕ) → pbody-lts.Need-returns-3 (
-  placed-reads.Asked,
-  placed-reads.Learnt,
-  check-relational-reads.Asked,
-  check-relational-reads.Learnt,
-  two-below t,
-  two.Post,
-  preds-below t,
-  preds.Post,
-  pred-below t,
-  pred.Post,
-  pquant-below t,
-  pquant.Post,
-  one-below t,
-  one.Post,
-  all-below t,
-  all.Post,
-  list-reads.Asked,
-  list-reads.Learnt,
-) (pbody-at t) pbody.Post
-pbody-returns-3 t c = ?
-
--- src/lib.rt:382:1
-pbody-same-length-3 : (t : ℕ) → pbody-lts.Need-same-length-3 (
-  placed-reads.Asked,
-  placed-reads.Learnt,
-  check-relational-reads.Asked,
-  check-relational-reads.Learnt,
-  two-below t,
-  two.Post,
-  preds-below t,
-  preds.Post,
-  pred-below t,
-  pred.Post,
-  pquant-below t,
-  pquant.Post,
-  one-below t,
-  one.Post,
-  all-below t,
-  all.Post,
-  list-reads.Asked,
-  list-reads.Learnt,
-) (pbody-at t) pbody.Post
-pbody-same-length-3 t c = ?
-
--- src/lib.rt:382:1
-pbody-same-length-4 : (t : ℕ) → pbody-lts.Need-same-length-4 (
-  placed-reads.Asked,
-  placed-reads.Learnt,
-  check-relational-reads.Asked,
-  check-relational-reads.Learnt,
-  two-below t,
-  two.Post,
-  preds-below t,
-  preds.Post,
-  pred-below t,
-  pred.Post,
-  pquant-below t,
-  pquant.Post,
-  one-below t,
-  one.Post,
-  all-below t,
-  all.Post,
-  list-reads.Asked,
-  list-reads.Learnt,
-) (pbody-at t) pbody.Post
-pbody-same-length-4 t c = ?
-
--- src/lib.rt:382:1
-pbody-returns-4 : (t : ℕ) → pbody-lts.Need-returns-4 (
-  placed-reads.Asked,
-  placed-reads.Learnt,
-  check-relational-reads.Asked,
-  check-relational-reads.Learnt,
-  two-below t,
-  two.Post,
-  preds-below t,
-  preds.Post,
-  pred-below t,
-  pred.Post,
-  pquant-below t,
-  pquant.Post,
-  one-below t,
-  one.Post,
-  all-below t,
-  all.Post,
-  list-reads.Asked,
-  list-reads.Learnt,
-) (pbody-at t) pbody.Post
-pbody-returns-4 t c = ?
-
--- src/lib.rt:382:1
-pbody-same-length-5 : (t : ℕ) → pbody-lts.Need-same-length-5 (
-  placed-reads.Asked,
-  placed-reads.Learnt,
-  check-relational-reads.Asked,
-  check-relational-reads.Learnt,
-  two-below t,
-  two.Post,
-  preds-below t,
-  preds.Post,
-  pred-below t,
-  pred.Post,
-  pquant-below t,
-  pquant.Post,
-  one-below t,
-  one.Post,
-  all-below t,
-  all.Post,
-  list-reads.Asked,
-  list-reads.Learnt,
-) (pbody-at t) pbody.Post
-pbody-same-length-5 t c = ?
-
--- src/lib.rt:382:1
-pbody-same-length-6 : (t : ℕ) → pbody-lts.Need-same-length-6 (
-  placed-reads.Asked,
-  placed-reads.Learnt,
-  check-relational-reads.Asked,
-  check-relational-reads.Learnt,
-  two-below t,
-  two.Post,
-  preds-below t,
-  preds.Post,
-  pred-below t,
-  pred.Post,
-  pquant-below t,
-  pquant.Post,
-  one-below t,
-  one.Post,
-  all-below t,
-  all.Post,
-  list-reads.Asked,
-  list-reads.Learnt,
-) (pbody-at t) pbody.Post
-pbody-same-length-6 t c = ?
-
--- src/lib.rt:382:1
-pbody-returns-5 : (t : ℕ) → pbody-lts.Need-returns-5 (
-  placed-reads.Asked,
-  placed-reads.Learnt,
-  check-relational-reads.Asked,
-  check-relational-reads.Learnt,
-  two-below t,
-  two.Post,
-  preds-below t,
-  preds.Post,
-  pred-below t,
-  pred.Post,
-  pquant-below t,
-  pquant.Post,
-  one-below t,
-  one.Post,
-  all-below t,
-  all.Post,
-  list-reads.Asked,
-  list-reads.Learnt,
-) (pbody-at t) pbody.Post
-pbody-returns-5 t c = ?
-
--- src/lib.rt:382:1
-pbody-same-length-7 : (t : ℕ) → pbody-lts.Need-same-length-7 (
-  placed-reads.Asked,
-  placed-reads.Learnt,
-  check-relational-reads.Asked,
-  check-relational-reads.Learnt,
-  two-below t,
-  two.Post,
-  preds-below t,
-  preds.Post,
-  pred-below t,
-  pred.Post,
-  pquant-below t,
-  pquant.Post,
-  one-below t,
-  one.Post,
-  all-below t,
-  all.Post,
-  list-reads.Asked,
-  list-reads.Learnt,
-) (pbody-at t) pbody.Post
-pbody-same-length-7 t c = ?
-
--- src/lib.rt:382:1
-pbody-same-length-8 : (t : ℕ) → pbody-lts.Need-same-length-8 (
-  placed-reads.Asked,
-  placed-reads.Learnt,
-  check-relational-reads.Asked,
-  check-relational-reads.Learnt,
-  two-below t,
-  two.Post,
-  preds-below t,
-  preds.Post,
-  pred-below t,
-  pred.Post,
-  pquant-below t,
-  pquant.Post,
-  one-below t,
-  one.Post,
-  all-below t,
-  all.Post,
-  list-reads.Asked,
-  list-reads.Learnt,
-) (pbody-at t) pbody.Post
-pbody-same-length-8 t c = ?
-
--- src/lib.rt:382:1
-pbody-returns-6 : (t : ℕ) → pbody-lts.Need-returns-6 (
-  placed-reads.Asked,
-  placed-reads.Learnt,
-  check-relational-reads.Asked,
-  check-relational-reads.Learnt,
-  two-below t,
-  two.Post,
-  preds-below t,
-  preds.Post,
-  pred-below t,
-  pred.Post,
-  pquant-below t,
-  pquant.Post,
-  one-below t,
-  one.Post,
-  all-below t,
-  all.Post,
-  list-reads.Asked,
-  list-reads.Learnt,
-) (pbody-at t) pbody.Post
-pbody-returns-6 t c = ?
-
--- src/lib.rt:382:1
-pbody-same-length-9 : (t : ℕ) → pbody-lts.Need-same-length-9 (
-  placed-reads.Asked,
-  placed-reads.Learnt,
-  check-relational-reads.Asked,
-  check-relational-reads.Learnt,
-  two-below t,
-  two.Post,
-  preds-below t,
-  preds.Post,
-  pred-below t,
-  pred.Post,
-  pquant-below t,
-  pquant.Post,
-  one-below t,
-  one.Post,
-  all-below t,
-  all.Post,
-  list-reads.Asked,
-  list-reads.Learnt,
-) (pbody-at t) pbody.Post
-pbody-same-length-9 t c = ?
-
--- src/lib.rt:382:1
-pbody-same-length-10 : (t : ℕ) → pbody-lts.Need-same-length-10 (
-  placed-reads.Asked,
-  placed-reads.Learnt,
-  check-relational-reads.Asked,
-  check-relational-reads.Learnt,
-  two-below t,
-  two.Post,
-  preds-below t,
-  preds.Post,
-  pred-below t,
-  pred.Post,
-  pquant-below t,
-  pquant.Post,
-  one-below t,
-  one.Post,
-  all-below t,
-  all.Post,
-  list-reads.Asked,
-  list-reads.Learnt,
-) (pbody-at t) pbody.Post
-pbody-same-length-10 t c = ?
-
--- src/lib.rt:382:1
-pbody-returns-7 : (t : ℕ) → pbody-lts.Need-returns-7 (
-  placed-reads.Asked,
-  placed-reads.Learnt,
-  check-relational-reads.Asked,
-  check-relational-reads.Learnt,
-  two-below t,
-  two.Post,
-  preds-below t,
-  preds.Post,
-  pred-below t,
-  pred.Post,
-  pquant-below t,
-  pquant.Post,
-  one-below t,
-  one.Post,
-  all-below t,
-  all.Post,
-  list-reads.Asked,
-  list-reads.Learnt,
-) (pbody-at t) pbody.Post
-pbody-returns-7 t c = ?
-
--- src/lib.rt:382:1
-pbody-same-length-11 : (t : ℕ) → pbody-lts.Need-same-length-11 (
-  placed-reads.Asked,
-  placed-reads.Learnt,
-  check-relational-reads.Asked,
-  check-relational-reads.Learnt,
-  two-below t,
-  two.Post,
-  preds-below t,
-  preds.Post,
-  pred-below t,
-  pred.Post,
-  pquant-below t,
-  pquant.Post,
-  one-below t,
-  one.Post,
-  all-below t,
-  all.Post,
-  list-reads.Asked,
-  list-reads.Learnt,
-) (pbody-at t) pbody.Post
-pbody-same-length-11 t c = ?
-
--- src/lib.rt:382:1
-pbody-same-length-12 : (t : ℕ) → pbody-lts.Need-same-length-12 (
-  placed-reads.Asked,
-  placed-reads.Learnt,
-  check-relational-reads.Asked,
-  check-relational-reads.Learnt,
-  two-below t,
-  two.Post,
-  preds-below t,
-  preds.Post,
-  pred-below t,
-  pred.Post,
-  pquant-below t,
-  pquant.Post,
-  one-below t,
-  one.Post,
-  all-below t,
-  all.Post,
-  list-reads.Asked,
-  list-reads.Learnt,
-) (pbody-at t) pbody.Post
-pbody-same-length-12 t c = ?
-
--- src/lib.rt:382:1
-pbody-returns-8 : (t : ℕ) → pbody-lts.Need-returns-8 (
-  placed-reads.Asked,
-  placed-reads.Learnt,
-  check-relational-reads.Asked,
-  check-relational-reads.Learnt,
-  two-below t,
-  two.Post,
-  preds-below t,
-  preds.Post,
-  pred-below t,
-  pred.Post,
-  pquant-below t,
-  pquant.Post,
-  one-below t,
-  one.Post,
-  all-below t,
-  all.Post,
-  list-reads.Asked,
-  list-reads.Learnt,
-) (pbody-at t) pbody.Post
-pbody-returns-8 t c = ?
-
--- src/lib.rt:382:1
-pbody-same-length-13 : (t : ℕ) → pbody-lts.Need-same-length-13 (
-  placed-reads.Asked,
-  placed-reads.Learnt,
-  check-relational-reads.Asked,
-  check-relational-reads.Learnt,
-  two-below t,
-  two.Post,
-  preds-below t,
-  preds.Post,
-  pred-below t,
-  pred.Post,
-  pquant-below t,
-  pquant.Post,
-  one-below t,
-  one.Post,
-  all-below t,
-  all.Post,
-  list-reads.Asked,
-  list-reads.Learnt,
-) (pbody-at t) pbody.Post
-pbody-same-length-13 t c = ?
-
--- src/lib.rt:382:1
-pbody-same-length-14 : (t : ℕ) → pbody-lts.Need-same-length-14 (
-  placed-reads.Asked,
-  placed-reads.Learnt,
-  check-relational-reads.Asked,
-  check-relational-reads.Learnt,
-  two-below t,
-  two.Post,
-  preds-below t,
-  preds.Post,
-  pred-below t,
-  pred.Post,
-  pquant-below t,
-  pquant.Post,
-  one-below t,
-  one.Post,
-  all-below t,
-  all.Post,
-  list-reads.Asked,
-  list-reads.Learnt,
-) (pbody-at t) pbody.Post
-pbody-same-length-14 t c = ?
-
--- src/lib.rt:382:1
-pbody-returns-9 : (t : ℕ) → pbody-lts.Need-returns-9 (
-  placed-reads.Asked,
-  placed-reads.Learnt,
-  check-relational-reads.Asked,
-  check-relational-reads.Learnt,
-  two-below t,
-  two.Post,
-  preds-below t,
-  preds.Post,
-  pred-below t,
-  pred.Post,
-  pquant-below t,
-  pquant.Post,
-  one-below t,
-  one.Post,
-  all-below t,
-  all.Post,
-  list-reads.Asked,
-  list-reads.Learnt,
-) (pbody-at t) pbody.Post
-pbody-returns-9 t c = ?
-
--- src/lib.rt:382:1
-pbody-same-length-15 : (t : ℕ) → pbody-lts.Need-same-length-15 (
-  placed-reads.Asked,
-  placed-reads.Learnt,
-  check-relational-reads.Asked,
-  check-relational-reads.Learnt,
-  two-below t,
-  two.Post,
-  preds-below t,
-  preds.Post,
-  pred-below t,
-  pred.Post,
-  pquant-below t,
-  pquant.Post,
-  one-below t,
-  one.Post,
-  all-below t,
-  all.Post,
-  list-reads.Asked,
-  list-reads.Learnt,
-) (pbody-at t) pbody.Post
-pbody-same-length-15 t c = ?
-
--- src/lib.rt:382:1
-pbody-same-length-16 : (t : ℕ) → pbody-lts.Need-same-length-16 (
-  placed-reads.Asked,
-  placed-reads.Learnt,
-  check-relational-reads.Asked,
-  check-relational-reads.Learnt,
-  two-below t,
-  two.Post,
-  preds-below t,
-  preds.Post,
-  pred-below t,
-  pred.Post,
-  pquant-below t,
-  pquant.Post,
-  one-below t,
-  one.Post,
-  all-below t,
-  all.Post,
-  list-reads.Asked,
-  list-reads.Learnt,
-) (pbody-at t) pbody.Post
-pbody-same-length-16 t c = ?
-
--- src/lib.rt:382:1
-pbody-returns-10 : (t : ℕ) → pbody-lts.Need-returns-10 (
-  placed-reads.Asked,
-  placed-reads.Learnt,
-  check-relational-reads.Asked,
-  check-relational-reads.Learnt,
-  two-below t,
-  two.Post,
-  preds-below t,
-  preds.Post,
-  pred-below t,
-  pred.Post,
-  pquant-below t,
-  pquant.Post,
-  one-below t,
-  one.Post,
-  all-below t,
-  all.Post,
-  list-reads.Asked,
-  list-reads.Learnt,
-) (pbody-at t) pbody.Post
-pbody-returns-10 t c = ?
-
--- src/lib.rt:440:61
-pquant-placed-requires : (t : ℕ) → pquant-lts.Need-placed-requires (
-  placed-reads.Asked,
-  placed-reads.Learnt,
-  declare-reads.Asked,
-  declare-reads.Learnt,
-  pred-below t,
-  pred.Post,
-  bounded-reads.Asked,
-  bounded-reads.Learnt,
-) (pquant-at t) pquant.Post
-pquant-placed-requires t c κs = ?
-
--- src/lib.rt:440:9
-pquant-declare-requires : (t : ℕ) → pquant-lts.Need-declare-requires (
-  placed-reads.Asked,
-  placed-reads.Learnt,
-  declare-reads.Asked,
-  declare-reads.Learnt,
-  pred-below t,
-  pred.Post,
-  bounded-reads.Asked,
-  bounded-reads.Learnt,
-) (pquant-at t) pquant.Post
-pquant-declare-requires t c κs = ?
-
--- src/lib.rt:441:9
-pquant-pred-requires : (t : ℕ) → pquant-lts.Need-pred-requires (
-  placed-reads.Asked,
-  placed-reads.Learnt,
-  declare-reads.Asked,
-  declare-reads.Learnt,
-  pred-below t,
-  pred.Post,
-  bounded-reads.Asked,
-  bounded-reads.Learnt,
-) (pquant-at t) pquant.Post
-pquant-pred-requires t c κs = ?
-
--- src/lib.rt:442:5
-pquant-bounded-requires : (t : ℕ) → pquant-lts.Need-bounded-requires (
-  placed-reads.Asked,
-  placed-reads.Learnt,
-  declare-reads.Asked,
-  declare-reads.Learnt,
-  pred-below t,
-  pred.Post,
-  bounded-reads.Asked,
-  bounded-reads.Learnt,
-) (pquant-at t) pquant.Post
-pquant-bounded-requires t c κs = ?
-
--- src/lib.rt:426:1
-pquant-same-length : (t : ℕ) → pquant-lts.Need-same-length (
-  placed-reads.Asked,
-  placed-reads.Learnt,
-  declare-reads.Asked,
-  declare-reads.Learnt,
-  pred-below t,
-  pred.Post,
-  bounded-reads.Asked,
-  bounded-reads.Learnt,
-) (pquant-at t) pquant.Post
-pquant-same-length t c = ?
-
--- src/lib.rt:426:1
-pquant-same-length-2 : (t : ℕ) → pquant-lts.Need-same-length-2 (
-  placed-reads.Asked,
-  placed-reads.Learnt,
-  declare-reads.Asked,
-  declare-reads.Learnt,
-  pred-below t,
-  pred.Post,
-  bounded-reads.Asked,
-  bounded-reads.Learnt,
-) (pquant-at t) pquant.Post
-pquant-same-length-2 t c = ?
-
--- src/lib.rt:426:1
-pquant-returns : (t : ℕ) → pquant-lts.Need-returns (
-  placed-reads.Asked,
-  placed-reads.Learnt,
-  declare-reads.Asked,
-  declare-reads.Learnt,
-  pred-below t,
-  pred.Post,
-  bounded-reads.Asked,
-  bounded-reads.Learnt,
-) (pquant-at t) pquant.Post
-pquant-returns t c = ?
-
--- src/lib.rt:366:11
-pred-pred-head-requires : (t : ℕ) → pred-lts.Need-pred-head-requires (
-  pred-head-reads.Asked,
-  pred-head-reads.Learnt,
-  stopped-reads.Asked,
-  stopped-reads.Learnt,
-  paid-reads.Asked,
-  paid-reads.Learnt,
-  pbody-below t,
-  pbody.Post,
-) (pred-at t) pred.Post
-pred-pred-head-requires t c κs = ?
-
--- src/lib.rt:367:26
-pred-enum-told : (t : ℕ) → pred-lts.Need-enum-told (
-  pred-head-reads.Asked,
-  pred-head-reads.Learnt,
-  stopped-reads.Asked,
-  stopped-reads.Learnt,
-  paid-reads.Asked,
-  paid-reads.Learnt,
-  pbody-below t,
-  pbody.Post,
-) (pred-at t) pred.Post
-pred-enum-told t c = ?
-
--- src/lib.rt:367:26
-pred-stopped-requires : (t : ℕ) → pred-lts.Need-stopped-requires (
-  pred-head-reads.Asked,
-  pred-head-reads.Learnt,
-  stopped-reads.Asked,
-  stopped-reads.Learnt,
-  paid-reads.Asked,
-  paid-reads.Learnt,
-  pbody-below t,
-  pbody.Post,
-) (pred-at t) pred.Post
-pred-stopped-requires t c κs = ?
-
--- src/lib.rt:368:20
-pred-enum-known-h : (t : ℕ) → pred-lts.Need-enum-known-h (
-  pred-head-reads.Asked,
-  pred-head-reads.Learnt,
-  stopped-reads.Asked,
-  stopped-reads.Learnt,
-  paid-reads.Asked,
-  paid-reads.Learnt,
-  pbody-below t,
-  pbody.Post,
-) (pred-at t) pred.Post
-pred-enum-known-h t c = ?
-
--- src/lib.rt:369:17
-pred-paid-requires : (t : ℕ) → pred-lts.Need-paid-requires (
-  pred-head-reads.Asked,
-  pred-head-reads.Learnt,
-  stopped-reads.Asked,
-  stopped-reads.Learnt,
-  paid-reads.Asked,
-  paid-reads.Learnt,
-  pbody-below t,
-  pbody.Post,
-) (pred-at t) pred.Post
-pred-paid-requires t c κs = ?
-
--- src/lib.rt:371:17
-pred-returns : (t : ℕ) → pred-lts.Need-returns (
-  pred-head-reads.Asked,
-  pred-head-reads.Learnt,
-  stopped-reads.Asked,
-  stopped-reads.Learnt,
-  paid-reads.Asked,
-  paid-reads.Learnt,
-  pbody-below t,
-  pbody.Post,
-) (pred-at t) pred.Post
-pred-returns t c = ?
-
--- src/lib.rt:374:17
-pred-stopped-requires-2 : (t : ℕ) → pred-lts.Need-stopped-requires-2 (
-  pred-head-reads.Asked,
-  pred-head-reads.Learnt,
-  stopped-reads.Asked,
-  stopped-reads.Learnt,
-  paid-reads.Asked,
-  paid-reads.Learnt,
-  pbody-below t,
-  pbody.Post,
-) (pred-at t) pred.Post
-pred-stopped-requires-2 t c κs = ?
-
--- src/lib.rt:374:17
-pred-returns-2 : (t : ℕ) → pred-lts.Need-returns-2 (
-  pred-head-reads.Asked,
-  pred-head-reads.Learnt,
-  stopped-reads.Asked,
-  stopped-reads.Learnt,
-  paid-reads.Asked,
-  paid-reads.Learnt,
-  pbody-below t,
-  pbody.Post,
-) (pred-at t) pred.Post
-pred-returns-2 t c = ?
-
--- src/lib.rt:376:47
-pred-sub-pbody : (t : ℕ) → pred-lts.Need-sub-pbody (
-  pred-head-reads.Asked,
-  pred-head-reads.Learnt,
-  stopped-reads.Asked,
-  stopped-reads.Learnt,
-  paid-reads.Asked,
-  paid-reads.Learnt,
-  pbody-below t,
-  pbody.Post,
-) (pred-at t) pred.Post
-pred-sub-pbody t c = ?
-
--- src/lib.rt:376:13
-pred-pbody-requires : (t : ℕ) → pred-lts.Need-pbody-requires (
-  pred-head-reads.Asked,
-  pred-head-reads.Learnt,
-  stopped-reads.Asked,
-  stopped-reads.Learnt,
-  paid-reads.Asked,
-  paid-reads.Learnt,
-  pbody-below t,
-  pbody.Post,
-) (pred-at t) pred.Post
-pred-pbody-requires t c κs = ?
-
--- src/lib.rt:355:1
-pred-returns-3 : (t : ℕ) → pred-lts.Need-returns-3 (
-  pred-head-reads.Asked,
-  pred-head-reads.Learnt,
-  stopped-reads.Asked,
-  stopped-reads.Learnt,
-  paid-reads.Asked,
-  paid-reads.Learnt,
-  pbody-below t,
-  pbody.Post,
-) (pred-at t) pred.Post
-pred-returns-3 t c = ?
-
--- src/lib.rt:355:1
-pred-same-length : (t : ℕ) → pred-lts.Need-same-length (
-  pred-head-reads.Asked,
-  pred-head-reads.Learnt,
-  stopped-reads.Asked,
-  stopped-reads.Learnt,
-  paid-reads.Asked,
-  paid-reads.Learnt,
-  pbody-below t,
-  pbody.Post,
-) (pred-at t) pred.Post
-pred-same-length t c = ?
-
--- src/lib.rt:355:1
-pred-same-length-2 : (t : ℕ) → pred-lts.Need-same-length-2 (
-  pred-head-reads.Asked,
-  pred-head-reads.Learnt,
-  stopped-reads.Asked,
-  stopped-reads.Learnt,
-  paid-reads.Asked,
-  paid-reads.Learnt,
-  pbody-below t,
-  pbody.Post,
-) (pred-at t) pred.Post
-pred-same-length-2 t c = ?
-
--- src/lib.rt:355:1
-pred-returns-4 : (t : ℕ) → pred-lts.Need-returns-4 (
-  pred-head-reads.Asked,
-  pred-head-reads.Learnt,
-  stopped-reads.Asked,
-  stopped-reads.Learnt,
-  paid-reads.Asked,
-  paid-reads.Learnt,
-  pbody-below t,
-  pbody.Post,
-) (pred-at t) pred.Post
-pred-returns-4 t c = ?
+each-μ-loop s env work₀ output₀ size left plan n v₀ y₀ i₀ work output v y i = i
+
+each-loop-holds : (t : ℕ) → each-lts.Need-loop-holds (each-env t) (each-at t) each.Post each-Inv-loop each-μ-loop
+each-loop-holds t c = (refl, refl, refl)
+
+each-played-with-requires : (t : ℕ) → each-lts.Need-played-with-requires (each-env t) (each-at t) each.Post each-Inv-loop each-μ-loop
+each-played-with-requires t c κs = search needs
+
+each-play-requires : (t : ℕ) → each-lts.Need-play-requires (each-env t) (each-at t) each.Post each-Inv-loop each-μ-loop
+each-play-requires t c κs = search needs
+
+each-expr-requires : (t : ℕ) → each-lts.Need-expr-requires (each-env t) (each-at t) each.Post each-Inv-loop each-μ-loop
+each-expr-requires t c κs = (omega (arith, c .before .before .before .before .before .before .before .before .before .before .before .before .before .before .before .before .before .before .pre .0), tt)
+
+each-meet-requires : (t : ℕ) → each-lts.Need-meet-requires (each-env t) (each-at t) each.Post each-Inv-loop each-μ-loop
+each-meet-requires t c κs = search needs
+
+each-next-requires : (t : ℕ) → each-lts.Need-next-requires (each-env t) (each-at t) each.Post each-Inv-loop each-μ-loop
+each-next-requires t c κs = search needs
+
+each-sub-i : (t : ℕ) → each-lts.Need-sub-i (each-env t) (each-at t) each.Post each-Inv-loop each-μ-loop
+each-sub-i t c = omega (arith, c .before .before .before .before .before .before .before .before .before .before .before .before .before .before .before .before .before .before .before .before .before .before .before .before .before .before .before .loop-test .taken)
+
+each-loop-less : (t : ℕ) → each-lts.Need-loop-less (each-env t) (each-at t) each.Post each-Inv-loop each-μ-loop
+each-loop-less t c = omega (arith, c .before .before .before .before .before .before .before .before .before .before .before .before .before .before .before .before .before .before .before .before .before .before .before .before .before .before .before .loop-test .taken)
+
+each-loop-again : (t : ℕ) → each-lts.Need-loop-again (each-env t) (each-at t) each.Post each-Inv-loop each-μ-loop
+unfolding childBy
+each-loop-again t c = (children-more _ _ _ _ _ _ _ _ _ (c .before .before .before .before .before .before .before .before .before .before .before .before .before .before .before .before .before .before .before .before .before .before .before .before .before .before .before .before .loop .inv .0) (omega (arith, c .before .before .before .before .before .before .before .before .before .before .before .before .before .before .before .before .before .before .before .before .before .before .before .before .before .before .before .loop-test .taken)) (step _ _ _ _ (c .before .before .before .before .before .before .before .before .before .before .before .before .before .before .before .before .before .before .before .before .before .before .before .before .before .played-with .ensures) (step _ _ _ _ (c .before .before .before .before .before .before .before .before .before .before .before .before .before .before .before .before .before .before .before .before .before .before .play .ensures) (step _ _ _ _ (c .before .before .before .before .before .before .before .before .before .before .before .before .before .before .expr .ensures) (c .before .before .before .before .before .meet .ensures)))) (c .next .ensures), omega (arith, c .before .before .before .before .before .meet .kept .0, c .before .before .before .before .before .before .before .before .before .before .before .before .before .before .expr .kept .1 .1 .0, c .before .before .before .before .before .before .before .before .before .before .before .before .before .before .before .before .before .before .before .before .before .before .play .kept .0, c .before .before .before .before .before .before .before .before .before .before .before .before .before .before .before .before .before .before .before .before .before .before .before .before .before .before .before .before .loop .inv .1), omega (arith, c .before .before .before .before .before .meet .kept .1 .0, c .before .before .before .before .before .before .before .before .before .before .before .before .before .before .expr .kept .1 .1 .1 .0, c .before .before .before .before .before .before .before .before .before .before .before .before .before .before .before .before .before .before .before .before .before .before .play .kept .1 .0, c .before .before .before .before .before .before .before .before .before .before .before .before .before .before .before .before .before .before .before .before .before .before .before .before .before .before .before .before .loop .inv .2))
+
+each-gave-requires : (t : ℕ) → each-lts.Need-gave-requires (each-env t) (each-at t) each.Post each-Inv-loop each-μ-loop
+each-gave-requires t c κs = search needs
+
+each-same-length : (t : ℕ) → each-lts.Need-same-length (each-env t) (each-at t) each.Post each-Inv-loop each-μ-loop
+each-same-length t c = omega (arith, c .before .before .loop .inv .1, c .before .before .loop .inv .2)
+
+each-same-length-2 : (t : ℕ) → each-lts.Need-same-length-2 (each-env t) (each-at t) each.Post each-Inv-loop each-μ-loop
+each-same-length-2 t c = omega (arith, c .before .before .loop .inv .1, c .before .before .loop .inv .2)
+
+each-returns : (t : ℕ) → each-lts.Need-returns (each-env t) (each-at t) each.Post each-Inv-loop each-μ-loop
+each-returns t c = children-end _ _ _ _ _ _ _ (c .before .before .loop .inv .0) (omega (arith, c .before .loop-test .left)) (step _ _ _ _ (c .gave .ensures) refl)
+
+explicit-paid-requires : (t : ℕ) → explicit-lts.Need-paid-requires (explicit-env t) (explicit-at t) explicit.Post
+explicit-paid-requires t c κs = search needs
+
+explicit-returns : (t : ℕ) → explicit-lts.Need-returns (explicit-env t) (explicit-at t) explicit.Post
+unfolding paidBy enteredBy typedBy
+explicit-returns t c = by-explicit _ _ _ _ _ _ (step _ _ _ _ (c .before .before .paid .ensures) (no-eq _ _ _ _ _ (c .if1 .taken) refl))
+
+explicit-stopped-requires : (t : ℕ) → explicit-lts.Need-stopped-requires (explicit-env t) (explicit-at t) explicit.Post
+explicit-stopped-requires t c κs = search needs
+
+explicit-returns-2 : (t : ℕ) → explicit-lts.Need-returns-2 (explicit-env t) (explicit-at t) explicit.Post
+unfolding paidBy enteredBy typedBy
+explicit-returns-2 t c = by-explicit _ _ _ _ _ _ (step _ _ _ _ (c .before .before .before .before .paid .ensures) (yes-eq _ _ _ _ _ (c .before .before .if1 .left) (yes-eq _ _ _ _ _ (c .before .if2 .taken) (step _ _ _ _ (c .stopped .ensures) refl))))
+
+explicit-placed-requires : (t : ℕ) → explicit-lts.Need-placed-requires (explicit-env t) (explicit-at t) explicit.Post
+explicit-placed-requires t c κs = search needs
+
+explicit-skip-requires : (t : ℕ) → explicit-lts.Need-skip-requires (explicit-env t) (explicit-at t) explicit.Post
+explicit-skip-requires t c κs = search needs
+
+explicit-sub-expr : (t : ℕ) → explicit-lts.Need-sub-expr (explicit-env t) (explicit-at t) explicit.Post
+explicit-sub-expr t c = omega (arith, c .before .before .before .before .if2 .left, c .before .before .before .before .before .if1 .left)
+
+explicit-expr-requires : (t : ℕ) → explicit-lts.Need-expr-requires (explicit-env t) (explicit-at t) explicit.Post
+explicit-expr-requires t c κs = (omega (arith, c .before .before .before .before .before .before .before .before .before .before .before .before .pre .0, c .before .before .before .before .if2 .left, c .before .before .before .before .before .if1 .left), tt)
+
+explicit-placed-requires-2 : (t : ℕ) → explicit-lts.Need-placed-requires-2 (explicit-env t) (explicit-at t) explicit.Post
+explicit-placed-requires-2 t c κs = search needs
+
+explicit-meets-requires : (t : ℕ) → explicit-lts.Need-meets-requires (explicit-env t) (explicit-at t) explicit.Post
+explicit-meets-requires t c κs = search needs
+
+explicit-placed-requires-3 : (t : ℕ) → explicit-lts.Need-placed-requires-3 (explicit-env t) (explicit-at t) explicit.Post
+explicit-placed-requires-3 t c κs = search needs
+
+explicit-gave-requires : (t : ℕ) → explicit-lts.Need-gave-requires (explicit-env t) (explicit-at t) explicit.Post
+explicit-gave-requires t c κs = search needs
+
+explicit-same-length : (t : ℕ) → explicit-lts.Need-same-length (explicit-env t) (explicit-at t) explicit.Post
+explicit-same-length t c = omega (arith, c .before .before .before .before .before .before .meets .kept .1 .0, c .before .before .before .before .before .before .meets .kept .1 .1 .0, c .before .before .before .before .before .before .before .before .before .before .before .before .before .before .before .before .before .expr .kept .1 .1 .0, c .before .before .before .before .before .before .before .before .before .before .before .before .before .before .before .before .before .expr .kept .1 .1 .1 .0)
+
+explicit-same-length-2 : (t : ℕ) → explicit-lts.Need-same-length-2 (explicit-env t) (explicit-at t) explicit.Post
+explicit-same-length-2 t c = omega (arith, c .before .before .before .before .before .before .meets .kept .1 .0, c .before .before .before .before .before .before .meets .kept .1 .1 .0, c .before .before .before .before .before .before .before .before .before .before .before .before .before .before .before .before .before .expr .kept .1 .1 .0, c .before .before .before .before .before .before .before .before .before .before .before .before .before .before .before .before .before .expr .kept .1 .1 .1 .0)
+
+explicit-returns-3 : (t : ℕ) → explicit-lts.Need-returns-3 (explicit-env t) (explicit-at t) explicit.Post
+unfolding paidBy enteredBy typedBy
+explicit-returns-3 t c = by-explicit _ _ _ _ _ _ (step _ _ _ _ (c .before .before .before .before .before .before .before .before .before .before .before .before .before .before .before .before .before .before .before .before .before .before .before .before .before .paid .ensures) (yes-eq _ _ _ _ _ (c .before .before .before .before .before .before .before .before .before .before .before .before .before .before .before .before .before .before .before .before .before .before .before .if1 .left) (no-eq _ _ _ _ _ (c .before .before .before .before .before .before .before .before .before .before .before .before .before .before .before .before .before .before .before .before .before .before .if2 .left) (step _ _ _ _ (c .before .before .before .before .before .before .before .before .before .before .before .before .before .before .before .before .before .before .before .before .before .placed .ensures) (step _ _ _ _ (c .before .before .before .before .before .before .before .before .before .before .before .before .before .before .before .before .before .before .before .before .skip .ensures) (step _ _ _ _ (c .before .before .before .before .before .before .before .before .before .before .before .before .before .before .before .before .before .expr .ensures) (step _ _ _ _ (c .before .before .before .before .before .before .before .before .before .placed2 .ensures) (step _ _ _ _ (c .before .before .before .before .before .before .meets .ensures) (step _ _ _ _ (c .before .placed3 .ensures) (step _ _ _ _ (c .gave .ensures) refl))))))))))
+
+expr-expr-head-requires : (t : ℕ) → expr-lts.Need-expr-head-requires (expr-env t) (expr-at t) expr.Post
+expr-expr-head-requires t c κs = search needs
+
+expr-enum-told : (t : ℕ) → expr-lts.Need-enum-told (expr-env t) (expr-at t) expr.Post
+expr-enum-told t c = search needs
+
+expr-stopped-requires : (t : ℕ) → expr-lts.Need-stopped-requires (expr-env t) (expr-at t) expr.Post
+expr-stopped-requires t c κs = search needs
+
+expr-enum-known-h : (t : ℕ) → expr-lts.Need-enum-known-h (expr-env t) (expr-at t) expr.Post
+expr-enum-known-h t c = search needs
+
+expr-enum-known-h-2 : (t : ℕ) → expr-lts.Need-enum-known-h-2 (expr-env t) (expr-at t) expr.Post
+expr-enum-known-h-2 t c = search needs
+
+expr-explicit-requires : (t : ℕ) → expr-lts.Need-explicit-requires (expr-env t) (expr-at t) expr.Post
+expr-explicit-requires t c κs = (omega (arith, c .before .before .before .before .before .before .before .before .before .before .before .before .before .pre .0), tt)
+
+expr-owned-requires : (t : ℕ) → expr-lts.Need-owned-requires (expr-env t) (expr-at t) expr.Post
+expr-owned-requires t c κs = (omega (arith, c .before .before .before .before .before .before .before .before .before .before .before .pre .0), tt)
+
+expr-returns : (t : ℕ) → expr-lts.Need-returns (expr-env t) (expr-at t) expr.Post
+expr-returns t c = by-expr _ _ _ _ _ (step _ _ _ _ (c .before .before .before .expr-head .ensures) (expr-wrong _ _ _ _ _ (c .before .enum-told .given .1) (step _ _ _ _ (c .stopped .ensures) refl)))
+
+expr-same-length : (t : ℕ) → expr-lts.Need-same-length (expr-env t) (expr-at t) expr.Post
+expr-same-length t c = omega (arith, c .before .before .before .before .explicit .kept .1 .1 .0, c .before .before .before .before .explicit .kept .1 .1 .1 .0)
+
+expr-same-length-2 : (t : ℕ) → expr-lts.Need-same-length-2 (expr-env t) (expr-at t) expr.Post
+expr-same-length-2 t c = omega (arith, c .before .before .before .before .explicit .kept .1 .1 .0, c .before .before .before .before .explicit .kept .1 .1 .1 .0)
+
+expr-returns-2 : (t : ℕ) → expr-lts.Need-returns-2 (expr-env t) (expr-at t) expr.Post
+expr-returns-2 t c = by-expr _ _ _ _ _ (step _ _ _ _ (c .before .before .before .before .before .before .before .before .before .before .before .before .before .expr-head .ensures) (expr-explicit _ _ _ _ _ _ _ (c .before .before .before .before .before .before .before .before .before .before .before .h .given .1) (c .before .before .before .before .before .before .before .before .h2 .given .1) (c .before .before .before .before .explicit .ensures)))
+
+expr-same-length-3 : (t : ℕ) → expr-lts.Need-same-length-3 (expr-env t) (expr-at t) expr.Post
+expr-same-length-3 t c = omega (arith, c .before .before .before .before .owned .kept .1 .1 .0, c .before .before .before .before .owned .kept .1 .1 .1 .0)
+
+expr-same-length-4 : (t : ℕ) → expr-lts.Need-same-length-4 (expr-env t) (expr-at t) expr.Post
+expr-same-length-4 t c = omega (arith, c .before .before .before .before .owned .kept .1 .1 .0, c .before .before .before .before .owned .kept .1 .1 .1 .0)
+
+expr-returns-3 : (t : ℕ) → expr-lts.Need-returns-3 (expr-env t) (expr-at t) expr.Post
+expr-returns-3 t c = by-expr _ _ _ _ _ (step _ _ _ _ (c .before .before .before .before .before .before .before .before .before .before .before .expr-head .ensures) (expr-owned _ _ _ _ _ _ (c .before .before .before .before .before .before .before .before .before .h .given .1) (c .before .before .before .before .before .before .before .match2 .keys2) (c .before .before .before .before .owned .ensures)))
+
+one-expr-requires : (t : ℕ) → one-lts.Need-expr-requires (one-env t) (one-at t) one.Post
+one-expr-requires t c κs = (omega (arith, c .before .before .before .before .before .before .pre .0), tt)
+
+one-played-with-requires : (t : ℕ) → one-lts.Need-played-with-requires (one-env t) (one-at t) one.Post
+one-played-with-requires t c κs = search needs
+
+one-play-requires : (t : ℕ) → one-lts.Need-play-requires (one-env t) (one-at t) one.Post
+one-play-requires t c κs = search needs
+
+one-same-length : (t : ℕ) → one-lts.Need-same-length (one-env t) (one-at t) one.Post
+one-same-length t c = omega (arith, c .before .before .before .before .play .kept .0, c .before .before .before .before .play .kept .1 .0, c .before .before .before .before .before .before .before .before .before .before .before .before .before .before .expr .kept .1 .1 .0, c .before .before .before .before .before .before .before .before .before .before .before .before .before .before .expr .kept .1 .1 .1 .0)
+
+one-same-length-2 : (t : ℕ) → one-lts.Need-same-length-2 (one-env t) (one-at t) one.Post
+one-same-length-2 t c = omega (arith, c .before .before .before .before .play .kept .0, c .before .before .before .before .play .kept .1 .0, c .before .before .before .before .before .before .before .before .before .before .before .before .before .before .expr .kept .1 .1 .0, c .before .before .before .before .before .before .before .before .before .before .before .before .before .before .expr .kept .1 .1 .1 .0)
+
+one-returns : (t : ℕ) → one-lts.Need-returns (one-env t) (one-at t) one.Post
+unfolding oneBy
+one-returns t c = step _ _ _ _ (c .before .before .before .before .before .before .before .before .before .before .before .before .before .before .expr .ensures) (step _ _ _ _ (c .before .before .before .before .before .before .before .played-with .ensures) (c .before .before .before .before .play .ensures))
+
+owned-enter-requires : (t : ℕ) → owned-lts.Need-enter-requires (owned-env t) (owned-at t) owned.Post
+owned-enter-requires t c κs = search needs
+
+owned-returns : (t : ℕ) → owned-lts.Need-returns (owned-env t) (owned-at t) owned.Post
+unfolding ownedBy enteredBy
+owned-returns t c = by-owned _ _ _ _ _ _ (step _ _ _ _ (c .before .before .enter .ensures) (no-eq _ _ _ _ _ (c .if1 .taken) refl))
+
+owned-stopped-requires : (t : ℕ) → owned-lts.Need-stopped-requires (owned-env t) (owned-at t) owned.Post
+owned-stopped-requires t c κs = search needs
+
+owned-returns-2 : (t : ℕ) → owned-lts.Need-returns-2 (owned-env t) (owned-at t) owned.Post
+unfolding ownedBy enteredBy
+owned-returns-2 t c = by-owned _ _ _ _ _ _ (step _ _ _ _ (c .before .before .before .before .enter .ensures) (yes-eq _ _ _ _ _ (c .before .before .if1 .left) (yes-eq _ _ _ _ _ (c .before .if2 .taken) (step _ _ _ _ (c .stopped .ensures) refl))))
+
+owned-sub-body : (t : ℕ) → owned-lts.Need-sub-body (owned-env t) (owned-at t) owned.Post
+owned-sub-body t c = omega (arith, c .before .before .if2 .left, c .before .before .before .if1 .left)
+
+owned-body-requires : (t : ℕ) → owned-lts.Need-body-requires (owned-env t) (owned-at t) owned.Post
+owned-body-requires t c κs = (omega (arith, c .before .before .before .before .before .before .before .before .before .before .before .pre .0, c .before .before .if2 .left, c .before .before .before .if1 .left), tt)
+
+owned-leave-requires : (t : ℕ) → owned-lts.Need-leave-requires (owned-env t) (owned-at t) owned.Post
+owned-leave-requires t c κs = search needs
+
+owned-same-length : (t : ℕ) → owned-lts.Need-same-length (owned-env t) (owned-at t) owned.Post
+owned-same-length t c = omega (arith, c .before .before .leave .kept .0, c .before .before .before .before .before .before .before .before .body .kept .1 .1 .0, c .before .before .before .before .before .before .before .before .body .kept .1 .1 .1 .0)
+
+owned-same-length-2 : (t : ℕ) → owned-lts.Need-same-length-2 (owned-env t) (owned-at t) owned.Post
+owned-same-length-2 t c = omega (arith, c .before .before .leave .kept .0, c .before .before .before .before .before .before .before .before .body .kept .1 .1 .0, c .before .before .before .before .before .before .before .before .body .kept .1 .1 .1 .0)
+
+owned-returns-3 : (t : ℕ) → owned-lts.Need-returns-3 (owned-env t) (owned-at t) owned.Post
+unfolding ownedBy enteredBy
+owned-returns-3 t c = by-owned _ _ _ _ _ _ (step _ _ _ _ (c .before .before .before .before .before .before .before .before .before .before .before .before .before .before .enter .ensures) (yes-eq _ _ _ _ _ (c .before .before .before .before .before .before .before .before .before .before .before .before .if1 .left) (no-eq _ _ _ _ _ (c .before .before .before .before .before .before .before .before .before .before .before .if2 .left) (step _ _ _ _ (c .before .before .before .before .before .before .before .before .body .ensures) (c .before .before .leave .ensures _)))))
+
+pbody-enum-known-h : (t : ℕ) → pbody-lts.Need-enum-known-h (pbody-env t) (pbody-at t) pbody.Post
+pbody-enum-known-h t c = search needs
+
+pbody-placed-requires : (t : ℕ) → pbody-lts.Need-placed-requires (pbody-env t) (pbody-at t) pbody.Post
+pbody-placed-requires t c κs = search needs
+
+pbody-enum-known-h-2 : (t : ℕ) → pbody-lts.Need-enum-known-h-2 (pbody-env t) (pbody-at t) pbody.Post
+pbody-enum-known-h-2 t c = search needs
+
+pbody-placed-requires-2 : (t : ℕ) → pbody-lts.Need-placed-requires-2 (pbody-env t) (pbody-at t) pbody.Post
+pbody-placed-requires-2 t c κs = search needs
+
+pbody-enum-known-h-3 : (t : ℕ) → pbody-lts.Need-enum-known-h-3 (pbody-env t) (pbody-at t) pbody.Post
+pbody-enum-known-h-3 t c = search needs
+
+pbody-check-relational-requires : (t : ℕ) → pbody-lts.Need-check-relational-requires (pbody-env t) (pbody-at t) pbody.Post
+pbody-check-relational-requires t c κs = search needs
+
+pbody-placed-requires-3 : (t : ℕ) → pbody-lts.Need-placed-requires-3 (pbody-env t) (pbody-at t) pbody.Post
+pbody-placed-requires-3 t c κs = search needs
+
+pbody-two-requires : (t : ℕ) → pbody-lts.Need-two-requires (pbody-env t) (pbody-at t) pbody.Post
+pbody-two-requires t c κs = (omega (arith, c .before .before .before .before .before .before .before .before .before .before .before .before .pre .0), tt)
+
+pbody-enum-known-h-4 : (t : ℕ) → pbody-lts.Need-enum-known-h-4 (pbody-env t) (pbody-at t) pbody.Post
+pbody-enum-known-h-4 t c = search needs
+
+pbody-placed-requires-4 : (t : ℕ) → pbody-lts.Need-placed-requires-4 (pbody-env t) (pbody-at t) pbody.Post
+pbody-placed-requires-4 t c κs = search needs
+
+pbody-preds-requires : (t : ℕ) → pbody-lts.Need-preds-requires (pbody-env t) (pbody-at t) pbody.Post
+pbody-preds-requires t c κs = (omega (arith, c .before .before .before .before .before .before .before .before .before .before .before .pre .0), tt)
+
+pbody-enum-known-h-5 : (t : ℕ) → pbody-lts.Need-enum-known-h-5 (pbody-env t) (pbody-at t) pbody.Post
+pbody-enum-known-h-5 t c = search needs
+
+pbody-placed-requires-5 : (t : ℕ) → pbody-lts.Need-placed-requires-5 (pbody-env t) (pbody-at t) pbody.Post
+pbody-placed-requires-5 t c κs = search needs
+
+pbody-preds-requires-2 : (t : ℕ) → pbody-lts.Need-preds-requires-2 (pbody-env t) (pbody-at t) pbody.Post
+pbody-preds-requires-2 t c κs = (omega (arith, c .before .before .before .before .before .before .before .before .before .before .before .pre .0), tt)
+
+pbody-enum-known-h-6 : (t : ℕ) → pbody-lts.Need-enum-known-h-6 (pbody-env t) (pbody-at t) pbody.Post
+pbody-enum-known-h-6 t c = search needs
+
+pbody-placed-requires-6 : (t : ℕ) → pbody-lts.Need-placed-requires-6 (pbody-env t) (pbody-at t) pbody.Post
+pbody-placed-requires-6 t c κs = search needs
+
+pbody-pred-requires : (t : ℕ) → pbody-lts.Need-pred-requires (pbody-env t) (pbody-at t) pbody.Post
+pbody-pred-requires t c κs = (omega (arith, c .before .before .before .before .before .before .before .before .before .before .before .pre .0), tt)
+
+pbody-enum-known-h-7 : (t : ℕ) → pbody-lts.Need-enum-known-h-7 (pbody-env t) (pbody-at t) pbody.Post
+pbody-enum-known-h-7 t c = search needs
+
+pbody-pquant-requires : (t : ℕ) → pbody-lts.Need-pquant-requires (pbody-env t) (pbody-at t) pbody.Post
+pbody-pquant-requires t c κs = (omega (arith, c .before .before .before .before .before .before .before .before .before .before .pre .0), tt)
+
+pbody-enum-known-h-8 : (t : ℕ) → pbody-lts.Need-enum-known-h-8 (pbody-env t) (pbody-at t) pbody.Post
+pbody-enum-known-h-8 t c = search needs
+
+pbody-placed-requires-7 : (t : ℕ) → pbody-lts.Need-placed-requires-7 (pbody-env t) (pbody-at t) pbody.Post
+pbody-placed-requires-7 t c κs = search needs
+
+pbody-one-requires : (t : ℕ) → pbody-lts.Need-one-requires (pbody-env t) (pbody-at t) pbody.Post
+pbody-one-requires t c κs = (omega (arith, c .before .before .before .before .before .before .before .before .before .before .before .pre .0), tt)
+
+pbody-enum-known-h-9 : (t : ℕ) → pbody-lts.Need-enum-known-h-9 (pbody-env t) (pbody-at t) pbody.Post
+pbody-enum-known-h-9 t c = search needs
+
+pbody-placed-requires-8 : (t : ℕ) → pbody-lts.Need-placed-requires-8 (pbody-env t) (pbody-at t) pbody.Post
+pbody-placed-requires-8 t c κs = search needs
+
+pbody-all-requires : (t : ℕ) → pbody-lts.Need-all-requires (pbody-env t) (pbody-at t) pbody.Post
+pbody-all-requires t c κs = (omega (arith, c .before .before .before .before .before .before .before .before .before .before .before .pre .0), tt)
+
+pbody-enum-known-h-10 : (t : ℕ) → pbody-lts.Need-enum-known-h-10 (pbody-env t) (pbody-at t) pbody.Post
+pbody-enum-known-h-10 t c = search needs
+
+pbody-placed-requires-9 : (t : ℕ) → pbody-lts.Need-placed-requires-9 (pbody-env t) (pbody-at t) pbody.Post
+pbody-placed-requires-9 t c κs = search needs
+
+pbody-all-requires-2 : (t : ℕ) → pbody-lts.Need-all-requires-2 (pbody-env t) (pbody-at t) pbody.Post
+pbody-all-requires-2 t c κs = (omega (arith, c .before .before .before .before .before .before .before .before .before .before .before .pre .0), tt)
+
+pbody-list-requires : (t : ℕ) → pbody-lts.Need-list-requires (pbody-env t) (pbody-at t) pbody.Post
+pbody-list-requires t c κs = search needs
+
+pbody-returns : (t : ℕ) → pbody-lts.Need-returns (pbody-env t) (pbody-at t) pbody.Post
+unfolding predBodyBy
+pbody-returns t c = by-pred-body _ _ _ _ _ _ _ _ (c .before .before .h .given .1) (step _ _ _ _ (c .placed .ensures) refl)
+
+pbody-returns-2 : (t : ℕ) → pbody-lts.Need-returns-2 (pbody-env t) (pbody-at t) pbody.Post
+unfolding predBodyBy
+pbody-returns-2 t c = by-pred-body _ _ _ _ _ _ _ _ (c .before .before .h2 .given .1) (step _ _ _ _ (c .placed2 .ensures) refl)
+
+pbody-same-length : (t : ℕ) → pbody-lts.Need-same-length (pbody-env t) (pbody-at t) pbody.Post
+pbody-same-length t c = omega (arith, c .before .before .before .before .two .kept .1 .1 .0, c .before .before .before .before .two .kept .1 .1 .1 .0)
+
+pbody-same-length-2 : (t : ℕ) → pbody-lts.Need-same-length-2 (pbody-env t) (pbody-at t) pbody.Post
+pbody-same-length-2 t c = omega (arith, c .before .before .before .before .two .kept .1 .1 .0, c .before .before .before .before .two .kept .1 .1 .1 .0)
+
+pbody-returns-3 : (t : ℕ) → pbody-lts.Need-returns-3 (pbody-env t) (pbody-at t) pbody.Post
+unfolding predBodyBy
+pbody-returns-3 t c = by-pred-body _ _ _ _ _ _ _ _ (c .before .before .before .before .before .before .before .before .before .before .h3 .given .1) (step _ _ _ _ (c .before .before .before .before .before .before .before .before .check-relational .ensures) (step _ _ _ _ (c .before .before .before .before .before .placed3 .ensures) (c .before .before .before .before .two .ensures)))
+
+pbody-same-length-3 : (t : ℕ) → pbody-lts.Need-same-length-3 (pbody-env t) (pbody-at t) pbody.Post
+pbody-same-length-3 t c = omega (arith, c .before .before .before .before .preds .kept .1 .1 .0, c .before .before .before .before .preds .kept .1 .1 .1 .0)
+
+pbody-same-length-4 : (t : ℕ) → pbody-lts.Need-same-length-4 (pbody-env t) (pbody-at t) pbody.Post
+pbody-same-length-4 t c = omega (arith, c .before .before .before .before .preds .kept .1 .1 .0, c .before .before .before .before .preds .kept .1 .1 .1 .0)
+
+pbody-returns-4 : (t : ℕ) → pbody-lts.Need-returns-4 (pbody-env t) (pbody-at t) pbody.Post
+unfolding predBodyBy
+pbody-returns-4 t c = by-pred-body _ _ _ _ _ _ _ _ (c .before .before .before .before .before .before .before .before .before .h4 .given .1) (step _ _ _ _ (c .before .before .before .before .before .placed4 .ensures) (c .before .before .before .before .preds .ensures))
+
+pbody-same-length-5 : (t : ℕ) → pbody-lts.Need-same-length-5 (pbody-env t) (pbody-at t) pbody.Post
+pbody-same-length-5 t c = omega (arith, c .before .before .before .before .preds2 .kept .1 .1 .0, c .before .before .before .before .preds2 .kept .1 .1 .1 .0)
+
+pbody-same-length-6 : (t : ℕ) → pbody-lts.Need-same-length-6 (pbody-env t) (pbody-at t) pbody.Post
+pbody-same-length-6 t c = omega (arith, c .before .before .before .before .preds2 .kept .1 .1 .0, c .before .before .before .before .preds2 .kept .1 .1 .1 .0)
+
+pbody-returns-5 : (t : ℕ) → pbody-lts.Need-returns-5 (pbody-env t) (pbody-at t) pbody.Post
+unfolding predBodyBy
+pbody-returns-5 t c = by-pred-body _ _ _ _ _ _ _ _ (c .before .before .before .before .before .before .before .before .before .h5 .given .1) (step _ _ _ _ (c .before .before .before .before .before .placed5 .ensures) (c .before .before .before .before .preds2 .ensures))
+
+pbody-same-length-7 : (t : ℕ) → pbody-lts.Need-same-length-7 (pbody-env t) (pbody-at t) pbody.Post
+pbody-same-length-7 t c = omega (arith, c .before .before .before .before .pred .kept .1 .1 .0, c .before .before .before .before .pred .kept .1 .1 .1 .0)
+
+pbody-same-length-8 : (t : ℕ) → pbody-lts.Need-same-length-8 (pbody-env t) (pbody-at t) pbody.Post
+pbody-same-length-8 t c = omega (arith, c .before .before .before .before .pred .kept .1 .1 .0, c .before .before .before .before .pred .kept .1 .1 .1 .0)
+
+pbody-returns-6 : (t : ℕ) → pbody-lts.Need-returns-6 (pbody-env t) (pbody-at t) pbody.Post
+unfolding predBodyBy
+pbody-returns-6 t c = by-pred-body _ _ _ _ _ _ _ _ (c .before .before .before .before .before .before .before .before .before .h6 .given .1) (step _ _ _ _ (c .before .before .before .before .before .placed6 .ensures) (c .before .before .before .before .pred .ensures))
+
+pbody-same-length-9 : (t : ℕ) → pbody-lts.Need-same-length-9 (pbody-env t) (pbody-at t) pbody.Post
+pbody-same-length-9 t c = omega (arith, c .before .before .before .before .pquant .kept .1 .1 .0, c .before .before .before .before .pquant .kept .1 .1 .1 .0)
+
+pbody-same-length-10 : (t : ℕ) → pbody-lts.Need-same-length-10 (pbody-env t) (pbody-at t) pbody.Post
+pbody-same-length-10 t c = omega (arith, c .before .before .before .before .pquant .kept .1 .1 .0, c .before .before .before .before .pquant .kept .1 .1 .1 .0)
+
+pbody-returns-7 : (t : ℕ) → pbody-lts.Need-returns-7 (pbody-env t) (pbody-at t) pbody.Post
+unfolding predBodyBy
+pbody-returns-7 t c = by-pred-body _ _ _ _ _ _ _ _ (c .before .before .before .before .before .before .before .before .h7 .given .1) (c .before .before .before .before .pquant .ensures)
+
+pbody-same-length-11 : (t : ℕ) → pbody-lts.Need-same-length-11 (pbody-env t) (pbody-at t) pbody.Post
+pbody-same-length-11 t c = omega (arith, c .before .before .before .before .one .kept .1 .1 .0, c .before .before .before .before .one .kept .1 .1 .1 .0)
+
+pbody-same-length-12 : (t : ℕ) → pbody-lts.Need-same-length-12 (pbody-env t) (pbody-at t) pbody.Post
+pbody-same-length-12 t c = omega (arith, c .before .before .before .before .one .kept .1 .1 .0, c .before .before .before .before .one .kept .1 .1 .1 .0)
+
+pbody-returns-8 : (t : ℕ) → pbody-lts.Need-returns-8 (pbody-env t) (pbody-at t) pbody.Post
+unfolding predBodyBy
+pbody-returns-8 t c = by-pred-body _ _ _ _ _ _ _ _ (c .before .before .before .before .before .before .before .before .before .h8 .given .1) (step _ _ _ _ (c .before .before .before .before .before .before .before .placed7 .ensures) (c .before .before .before .before .one .ensures))
+
+pbody-same-length-13 : (t : ℕ) → pbody-lts.Need-same-length-13 (pbody-env t) (pbody-at t) pbody.Post
+pbody-same-length-13 t c = omega (arith, c .before .before .before .before .all .kept .1 .1 .0, c .before .before .before .before .all .kept .1 .1 .1 .0)
+
+pbody-same-length-14 : (t : ℕ) → pbody-lts.Need-same-length-14 (pbody-env t) (pbody-at t) pbody.Post
+pbody-same-length-14 t c = omega (arith, c .before .before .before .before .all .kept .1 .1 .0, c .before .before .before .before .all .kept .1 .1 .1 .0)
+
+pbody-returns-9 : (t : ℕ) → pbody-lts.Need-returns-9 (pbody-env t) (pbody-at t) pbody.Post
+unfolding predBodyBy
+pbody-returns-9 t c = by-pred-body _ _ _ _ _ _ _ _ (c .before .before .before .before .before .before .before .before .before .h9 .given .1) (step _ _ _ _ (c .before .before .before .before .before .placed8 .ensures) (c .before .before .before .before .all .ensures))
+
+pbody-same-length-15 : (t : ℕ) → pbody-lts.Need-same-length-15 (pbody-env t) (pbody-at t) pbody.Post
+pbody-same-length-15 t c = omega (arith, c .before .before .list .kept .0, c .before .before .before .before .before .before .before .before .all2 .kept .1 .1 .0, c .before .before .before .before .before .before .before .before .all2 .kept .1 .1 .1 .0)
+
+pbody-same-length-16 : (t : ℕ) → pbody-lts.Need-same-length-16 (pbody-env t) (pbody-at t) pbody.Post
+pbody-same-length-16 t c = omega (arith, c .before .before .list .kept .0, c .before .before .before .before .before .before .before .before .all2 .kept .1 .1 .0, c .before .before .before .before .before .before .before .before .all2 .kept .1 .1 .1 .0)
+
+pbody-returns-10 : (t : ℕ) → pbody-lts.Need-returns-10 (pbody-env t) (pbody-at t) pbody.Post
+unfolding predBodyBy
+pbody-returns-10 t c = by-pred-body _ _ _ _ _ _ _ _ (c .before .before .before .before .before .before .before .before .before .before .before .before .before .h10 .given .1) (step _ _ _ _ (step _ _ _ _ (c .before .before .before .before .before .before .before .before .before .before .before .placed9 .ensures) (c .before .before .before .before .before .before .before .before .all2 .ensures)) (c .before .before .list .ensures _ _))
+
+pquant-placed-requires : (t : ℕ) → pquant-lts.Need-placed-requires (pquant-env t) (pquant-at t) pquant.Post
+pquant-placed-requires t c κs = search needs
+
+pquant-declare-requires : (t : ℕ) → pquant-lts.Need-declare-requires (pquant-env t) (pquant-at t) pquant.Post
+pquant-declare-requires t c κs = search needs
+
+pquant-pred-requires : (t : ℕ) → pquant-lts.Need-pred-requires (pquant-env t) (pquant-at t) pquant.Post
+pquant-pred-requires t c κs = (omega (arith, c .before .before .before .before .before .before .before .before .before .before .before .before .before .before .pre .0), tt)
+
+pquant-bounded-requires : (t : ℕ) → pquant-lts.Need-bounded-requires (pquant-env t) (pquant-at t) pquant.Post
+pquant-bounded-requires t c κs = search needs
+
+pquant-same-length : (t : ℕ) → pquant-lts.Need-same-length (pquant-env t) (pquant-at t) pquant.Post
+pquant-same-length t c = omega (arith, c .before .before .before .before .before .pred .kept .1 .1 .0, c .before .before .before .before .before .pred .kept .1 .1 .1 .0, c .before .before .before .before .before .before .before .before .before .before .before .before .declare .kept .1 .1 .0, c .before .before .before .before .before .before .before .before .before .before .before .before .declare .kept .1 .1 .1 .0)
+
+pquant-same-length-2 : (t : ℕ) → pquant-lts.Need-same-length-2 (pquant-env t) (pquant-at t) pquant.Post
+pquant-same-length-2 t c = omega (arith, c .before .before .before .before .before .pred .kept .1 .1 .0, c .before .before .before .before .before .pred .kept .1 .1 .1 .0, c .before .before .before .before .before .before .before .before .before .before .before .before .declare .kept .1 .1 .0, c .before .before .before .before .before .before .before .before .before .before .before .before .declare .kept .1 .1 .1 .0)
+
+pquant-returns : (t : ℕ) → pquant-lts.Need-returns (pquant-env t) (pquant-at t) pquant.Post
+unfolding predQuantBy
+pquant-returns t c = step _ _ _ _ (c .before .before .before .before .before .before .before .before .before .before .before .before .before .placed .ensures) (step _ _ _ _ (c .before .before .before .before .before .before .before .before .before .before .before .before .declare .ensures) (step _ _ _ _ (c .before .before .before .before .before .pred .ensures) (step _ _ _ _ (c .bounded .ensures) refl)))
+
+pred-pred-head-requires : (t : ℕ) → pred-lts.Need-pred-head-requires (pred-env t) (pred-at t) pred.Post
+pred-pred-head-requires t c κs = search needs
+
+pred-enum-told : (t : ℕ) → pred-lts.Need-enum-told (pred-env t) (pred-at t) pred.Post
+pred-enum-told t c = search needs
+
+pred-stopped-requires : (t : ℕ) → pred-lts.Need-stopped-requires (pred-env t) (pred-at t) pred.Post
+pred-stopped-requires t c κs = search needs
+
+pred-enum-known-h : (t : ℕ) → pred-lts.Need-enum-known-h (pred-env t) (pred-at t) pred.Post
+pred-enum-known-h t c = search needs
+
+pred-paid-requires : (t : ℕ) → pred-lts.Need-paid-requires (pred-env t) (pred-at t) pred.Post
+pred-paid-requires t c κs = search needs
+
+pred-returns : (t : ℕ) → pred-lts.Need-returns (pred-env t) (pred-at t) pred.Post
+unfolding paidBy enteredBy
+pred-returns t c = by-pred _ _ _ _ _ (step _ _ _ _ (c .before .before .before .before .before .before .pred-head .ensures) (pred-is _ _ _ _ _ (c .before .before .before .before .h .given .1) (step _ _ _ _ (c .before .before .paid .ensures) (no-eq _ _ _ _ _ (c .if1 .taken) refl))))
+
+pred-stopped-requires-2 : (t : ℕ) → pred-lts.Need-stopped-requires-2 (pred-env t) (pred-at t) pred.Post
+pred-stopped-requires-2 t c κs = search needs
+
+pred-returns-2 : (t : ℕ) → pred-lts.Need-returns-2 (pred-env t) (pred-at t) pred.Post
+unfolding paidBy enteredBy
+pred-returns-2 t c = by-pred _ _ _ _ _ (step _ _ _ _ (c .before .before .before .before .before .before .before .before .pred-head .ensures) (pred-is _ _ _ _ _ (c .before .before .before .before .before .before .h .given .1) (step _ _ _ _ (c .before .before .before .before .paid .ensures) (yes-eq _ _ _ _ _ (c .before .before .if1 .left) (yes-eq _ _ _ _ _ (c .before .if2 .taken) (step _ _ _ _ (c .stopped2 .ensures) refl))))))
+
+pred-sub-pbody : (t : ℕ) → pred-lts.Need-sub-pbody (pred-env t) (pred-at t) pred.Post
+pred-sub-pbody t c = omega (arith, c .before .before .if2 .left, c .before .before .before .if1 .left)
+
+pred-pbody-requires : (t : ℕ) → pred-lts.Need-pbody-requires (pred-env t) (pred-at t) pred.Post
+pred-pbody-requires t c κs = (omega (arith, c .before .before .before .before .before .before .before .before .before .before .before .before .before .before .pre .0, c .before .before .if2 .left, c .before .before .before .if1 .left), tt)
+
+pred-returns-3 : (t : ℕ) → pred-lts.Need-returns-3 (pred-env t) (pred-at t) pred.Post
+unfolding paidBy enteredBy
+pred-returns-3 t c = by-pred _ _ _ _ _ (step _ _ _ _ (c .before .before .before .pred-head .ensures) (pred-wrong _ _ _ _ (c .before .enum-told .given .1) (step _ _ _ _ (c .stopped .ensures) refl)))
+
+pred-same-length : (t : ℕ) → pred-lts.Need-same-length (pred-env t) (pred-at t) pred.Post
+pred-same-length t c = omega (arith, c .before .before .before .before .pbody .kept .1 .1 .0, c .before .before .before .before .pbody .kept .1 .1 .1 .0)
+
+pred-same-length-2 : (t : ℕ) → pred-lts.Need-same-length-2 (pred-env t) (pred-at t) pred.Post
+pred-same-length-2 t c = omega (arith, c .before .before .before .before .pbody .kept .1 .1 .0, c .before .before .before .before .pbody .kept .1 .1 .1 .0)
+
+pred-returns-4 : (t : ℕ) → pred-lts.Need-returns-4 (pred-env t) (pred-at t) pred.Post
+unfolding paidBy enteredBy
+pred-returns-4 t c = by-pred _ _ _ _ _ (step _ _ _ _ (c .before .before .before .before .before .before .before .before .before .before .before .before .before .before .pred-head .ensures) (pred-is _ _ _ _ _ (c .before .before .before .before .before .before .before .before .before .before .before .before .h .given .1) (step _ _ _ _ (c .before .before .before .before .before .before .before .before .before .before .paid .ensures) (yes-eq _ _ _ _ _ (c .before .before .before .before .before .before .before .before .if1 .left) (no-eq _ _ _ _ _ (c .before .before .before .before .before .before .before .if2 .left) (c .before .before .before .before .pbody .ensures))))))
 
 abbrev preds-Inv-loop : preds-lts.InvT-loop
-preds-Inv-loop s env work₀ output₀ size left n v₀ i₀ work output v i = ?
+preds-Inv-loop s env work₀ output₀ size left n v₀ i₀ work output v i = (timesOf (predOf left s env) i (mach size v work output) ≡ timesOf (predOf left s env) i₀ (mach size v₀ work₀ output₀)) × (length work ≡ length work₀) × (length output ≡ length output₀)
 
 abbrev preds-μ-loop : preds-lts.MeasureT-loop
-preds-μ-loop s env work₀ output₀ size left n v₀ i₀ work output v i = ?
+preds-μ-loop s env work₀ output₀ size left n v₀ i₀ work output v i = i
 
--- src/lib.rt:460:5
-preds-loop-holds :
-    (t : ℕ) →
-    preds-lts.Need-loop-holds
-    (pred-below t, pred.Post)
-    (preds-at t)
-    preds.Post
-    preds-Inv-loop
-    preds-μ-loop
-preds-loop-holds t c = ?
+preds-loop-holds : (t : ℕ) → preds-lts.Need-loop-holds (preds-env t) (preds-at t) preds.Post preds-Inv-loop preds-μ-loop
+preds-loop-holds t c = (refl, refl, refl)
 
--- src/lib.rt:461:9
-preds-pred-requires :
-    (t : ℕ) →
-    preds-lts.Need-pred-requires
-    (pred-below t, pred.Post)
-    (preds-at t)
-    preds.Post
-    preds-Inv-loop
-    preds-μ-loop
-preds-pred-requires t c κs = ?
+preds-pred-requires : (t : ℕ) → preds-lts.Need-pred-requires (preds-env t) (preds-at t) preds.Post preds-Inv-loop preds-μ-loop
+preds-pred-requires t c κs = (omega (arith, c .before .before .before .before .before .before .before .before .pre .0), tt)
 
--- src/lib.rt:462:9
-preds-sub-i :
-    (t : ℕ) →
-    preds-lts.Need-sub-i
-    (pred-below t, pred.Post)
-    (preds-at t)
-    preds.Post
-    preds-Inv-loop
-    preds-μ-loop
-preds-sub-i t c = ?
+preds-sub-i : (t : ℕ) → preds-lts.Need-sub-i (preds-env t) (preds-at t) preds.Post preds-Inv-loop preds-μ-loop
+preds-sub-i t c = omega (arith, c .before .before .before .before .before .before .before .loop-test .taken)
 
--- src/lib.rt:460:5
-preds-loop-less :
-    (t : ℕ) →
-    preds-lts.Need-loop-less
-    (pred-below t, pred.Post)
-    (preds-at t)
-    preds.Post
-    preds-Inv-loop
-    preds-μ-loop
-preds-loop-less t c = ?
+preds-loop-less : (t : ℕ) → preds-lts.Need-loop-less (preds-env t) (preds-at t) preds.Post preds-Inv-loop preds-μ-loop
+preds-loop-less t c = omega (arith, c .before .before .before .before .before .before .before .loop-test .taken)
 
--- src/lib.rt:460:5
-preds-loop-again :
-    (t : ℕ) →
-    preds-lts.Need-loop-again
-    (pred-below t, pred.Post)
-    (preds-at t)
-    preds.Post
-    preds-Inv-loop
-    preds-μ-loop
-preds-loop-again t c = ?
+preds-loop-again : (t : ℕ) → preds-lts.Need-loop-again (preds-env t) (preds-at t) preds.Post preds-Inv-loop preds-μ-loop
+preds-loop-again t c = (by-times _ _ _ _ _ _ (c .before .before .before .before .before .before .before .before .loop .inv .0) (omega (arith, c .before .before .before .before .before .before .before .loop-test .taken)) (c .before .before .before .before .pred .ensures), omega (arith, c .before .before .before .before .pred .kept .1 .1 .0, c .before .before .before .before .before .before .before .before .loop .inv .1), omega (arith, c .before .before .before .before .pred .kept .1 .1 .1 .0, c .before .before .before .before .before .before .before .before .loop .inv .2))
 
--- src/lib.rt:446:1
-preds-same-length :
-    (t : ℕ) →
-    preds-lts.Need-same-length
-    (pred-below t, pred.Post)
-    (preds-at t)
-    preds.Post
-    preds-Inv-loop
-    preds-μ-loop
-preds-same-length t c = ?
+preds-same-length : (t : ℕ) → preds-lts.Need-same-length (preds-env t) (preds-at t) preds.Post preds-Inv-loop preds-μ-loop
+preds-same-length t c = omega (arith, c .before .loop .inv .1, c .before .loop .inv .2)
 
--- src/lib.rt:446:1
-preds-same-length-2 :
-    (t : ℕ) →
-    preds-lts.Need-same-length-2
-    (pred-below t, pred.Post)
-    (preds-at t)
-    preds.Post
-    preds-Inv-loop
-    preds-μ-loop
-preds-same-length-2 t c = ?
+preds-same-length-2 : (t : ℕ) → preds-lts.Need-same-length-2 (preds-env t) (preds-at t) preds.Post preds-Inv-loop preds-μ-loop
+preds-same-length-2 t c = omega (arith, c .before .loop .inv .1, c .before .loop .inv .2)
 
--- src/lib.rt:446:1
-preds-returns :
-    (t : ℕ) →
-    preds-lts.Need-returns
-    (pred-below t, pred.Post)
-    (preds-at t)
-    preds.Post
-    preds-Inv-loop
-    preds-μ-loop
-preds-returns t c = ?
+preds-returns : (t : ℕ) → preds-lts.Need-returns (preds-env t) (preds-at t) preds.Post preds-Inv-loop preds-μ-loop
+preds-returns t c = sym (times-none _ _ _ (omega (arith, c .loop-test .left))) ∙ c .before .loop .inv .0
 
--- src/lib.rt:347:9
-quant-check-quantified-requires : (t : ℕ) → quant-lts.Need-check-quantified-requires (
-  check-quantified-reads.Asked,
-  check-quantified-reads.Learnt,
-  placed-reads.Asked,
-  placed-reads.Learnt,
-  declare-reads.Asked,
-  declare-reads.Learnt,
-  pred-below t,
-  pred.Post,
-  one-below t,
-  one.Post,
-  bounded-reads.Asked,
-  bounded-reads.Learnt,
-) (quant-at t) quant.Post
-quant-check-quantified-requires t c κs = ?
+quant-check-quantified-requires : (t : ℕ) → quant-lts.Need-check-quantified-requires (quant-env t) (quant-at t) quant.Post
+quant-check-quantified-requires t c κs = search needs
 
--- src/lib.rt:348:61
-quant-placed-requires : (t : ℕ) → quant-lts.Need-placed-requires (
-  check-quantified-reads.Asked,
-  check-quantified-reads.Learnt,
-  placed-reads.Asked,
-  placed-reads.Learnt,
-  declare-reads.Asked,
-  declare-reads.Learnt,
-  pred-below t,
-  pred.Post,
-  one-below t,
-  one.Post,
-  bounded-reads.Asked,
-  bounded-reads.Learnt,
-) (quant-at t) quant.Post
-quant-placed-requires t c κs = ?
+quant-placed-requires : (t : ℕ) → quant-lts.Need-placed-requires (quant-env t) (quant-at t) quant.Post
+quant-placed-requires t c κs = search needs
 
--- src/lib.rt:348:9
-quant-declare-requires : (t : ℕ) → quant-lts.Need-declare-requires (
-  check-quantified-reads.Asked,
-  check-quantified-reads.Learnt,
-  placed-reads.Asked,
-  placed-reads.Learnt,
-  declare-reads.Asked,
-  declare-reads.Learnt,
-  pred-below t,
-  pred.Post,
-  one-below t,
-  one.Post,
-  bounded-reads.Asked,
-  bounded-reads.Learnt,
-) (quant-at t) quant.Post
-quant-declare-requires t c κs = ?
+quant-declare-requires : (t : ℕ) → quant-lts.Need-declare-requires (quant-env t) (quant-at t) quant.Post
+quant-declare-requires t c κs = search needs
 
--- src/lib.rt:349:9
-quant-pred-requires : (t : ℕ) → quant-lts.Need-pred-requires (
-  check-quantified-reads.Asked,
-  check-quantified-reads.Learnt,
-  placed-reads.Asked,
-  placed-reads.Learnt,
-  declare-reads.Asked,
-  declare-reads.Learnt,
-  pred-below t,
-  pred.Post,
-  one-below t,
-  one.Post,
-  bounded-reads.Asked,
-  bounded-reads.Learnt,
-) (quant-at t) quant.Post
-quant-pred-requires t c κs = ?
+quant-pred-requires : (t : ℕ) → quant-lts.Need-pred-requires (quant-env t) (quant-at t) quant.Post
+quant-pred-requires t c κs = (omega (arith, c .before .before .before .before .before .before .before .before .before .before .before .before .before .before .before .before .pre .0), tt)
 
--- src/lib.rt:350:9
-quant-one-requires : (t : ℕ) → quant-lts.Need-one-requires (
-  check-quantified-reads.Asked,
-  check-quantified-reads.Learnt,
-  placed-reads.Asked,
-  placed-reads.Learnt,
-  declare-reads.Asked,
-  declare-reads.Learnt,
-  pred-below t,
-  pred.Post,
-  one-below t,
-  one.Post,
-  bounded-reads.Asked,
-  bounded-reads.Learnt,
-) (quant-at t) quant.Post
-quant-one-requires t c κs = ?
+quant-one-requires : (t : ℕ) → quant-lts.Need-one-requires (quant-env t) (quant-at t) quant.Post
+quant-one-requires t c κs = (omega (arith, c .before .before .before .before .before .before .before .before .before .before .before .before .before .before .before .before .before .before .before .before .before .before .before .pre .0), tt)
 
--- src/lib.rt:351:5
-quant-bounded-requires : (t : ℕ) → quant-lts.Need-bounded-requires (
-  check-quantified-reads.Asked,
-  check-quantified-reads.Learnt,
-  placed-reads.Asked,
-  placed-reads.Learnt,
-  declare-reads.Asked,
-  declare-reads.Learnt,
-  pred-below t,
-  pred.Post,
-  one-below t,
-  one.Post,
-  bounded-reads.Asked,
-  bounded-reads.Learnt,
-) (quant-at t) quant.Post
-quant-bounded-requires t c κs = ?
+quant-bounded-requires : (t : ℕ) → quant-lts.Need-bounded-requires (quant-env t) (quant-at t) quant.Post
+quant-bounded-requires t c κs = search needs
 
--- src/lib.rt:331:1
-quant-same-length : (t : ℕ) → quant-lts.Need-same-length (
-  check-quantified-reads.Asked,
-  check-quantified-reads.Learnt,
-  placed-reads.Asked,
-  placed-reads.Learnt,
-  declare-reads.Asked,
-  declare-reads.Learnt,
-  pred-below t,
-  pred.Post,
-  one-below t,
-  one.Post,
-  bounded-reads.Asked,
-  bounded-reads.Learnt,
-) (quant-at t) quant.Post
-quant-same-length t c = ?
+quant-same-length : (t : ℕ) → quant-lts.Need-same-length (quant-env t) (quant-at t) quant.Post
+quant-same-length t c = omega (arith, c .before .before .before .before .before .one .kept .1 .1 .0, c .before .before .before .before .before .one .kept .1 .1 .1 .0, c .before .before .before .before .before .before .before .before .before .before .before .before .pred .kept .1 .1 .0, c .before .before .before .before .before .before .before .before .before .before .before .before .pred .kept .1 .1 .1 .0, c .before .before .before .before .before .before .before .before .before .before .before .before .before .before .before .before .before .before .before .declare .kept .1 .1 .0, c .before .before .before .before .before .before .before .before .before .before .before .before .before .before .before .before .before .before .before .declare .kept .1 .1 .1 .0)
 
--- src/lib.rt:331:1
-quant-same-length-2 : (t : ℕ) → quant-lts.Need-same-length-2 (
-  check-quantified-reads.Asked,
-  check-quantified-reads.Learnt,
-  placed-reads.Asked,
-  placed-reads.Learnt,
-  declare-reads.Asked,
-  declare-reads.Learnt,
-  pred-below t,
-  pred.Post,
-  one-below t,
-  one.Post,
-  bounded-reads.Asked,
-  bounded-reads.Learnt,
-) (quant-at t) quant.Post
-quant-same-length-2 t c = ?
+quant-same-length-2 : (t : ℕ) → quant-lts.Need-same-length-2 (quant-env t) (quant-at t) quant.Post
+quant-same-length-2 t c = omega (arith, c .before .before .before .before .before .one .kept .1 .1 .0, c .before .before .before .before .before .one .kept .1 .1 .1 .0, c .before .before .before .before .before .before .before .before .before .before .before .before .pred .kept .1 .1 .0, c .before .before .before .before .before .before .before .before .before .before .before .before .pred .kept .1 .1 .1 .0, c .before .before .before .before .before .before .before .before .before .before .before .before .before .before .before .before .before .before .before .declare .kept .1 .1 .0, c .before .before .before .before .before .before .before .before .before .before .before .before .before .before .before .before .before .before .before .declare .kept .1 .1 .1 .0)
 
--- src/lib.rt:331:1
-quant-returns : (t : ℕ) → quant-lts.Need-returns (
-  check-quantified-reads.Asked,
-  check-quantified-reads.Learnt,
-  placed-reads.Asked,
-  placed-reads.Learnt,
-  declare-reads.Asked,
-  declare-reads.Learnt,
-  pred-below t,
-  pred.Post,
-  one-below t,
-  one.Post,
-  bounded-reads.Asked,
-  bounded-reads.Learnt,
-) (quant-at t) quant.Post
-quant-returns t c = ?
+quant-returns : (t : ℕ) → quant-lts.Need-returns (quant-env t) (quant-at t) quant.Post
+unfolding quantBy
+quant-returns t c = step _ _ _ _ (c .before .before .before .before .before .before .before .before .before .before .before .before .before .before .before .before .before .before .before .before .before .before .before .check-quantified .ensures) (step _ _ _ _ (c .before .before .before .before .before .before .before .before .before .before .before .before .before .before .before .before .before .before .before .before .placed .ensures) (step _ _ _ _ (c .before .before .before .before .before .before .before .before .before .before .before .before .before .before .before .before .before .before .before .declare .ensures) (step _ _ _ _ (c .before .before .before .before .before .before .before .before .before .before .before .before .pred .ensures) (step _ _ _ _ (c .before .before .before .before .before .one .ensures) (step _ _ _ _ (c .bounded .ensures) refl)))))
 
--- src/lib.rt:239:9
-two-expr-requires : (t : ℕ) → two-lts.Need-expr-requires (
-  expr-below t,
-  expr.Post,
-  played-with-reads.Asked,
-  played-with-reads.Learnt,
-  play-reads.Asked,
-  play-reads.Learnt,
-) (two-at t) two.Post
-two-expr-requires t c κs = ?
+two-expr-requires : (t : ℕ) → two-lts.Need-expr-requires (two-env t) (two-at t) two.Post
+two-expr-requires t c κs = (omega (arith, c .before .before .before .before .before .before .pre .0), tt)
 
--- src/lib.rt:242:9
-two-expr-requires-2 : (t : ℕ) → two-lts.Need-expr-requires-2 (
-  expr-below t,
-  expr.Post,
-  played-with-reads.Asked,
-  played-with-reads.Learnt,
-  play-reads.Asked,
-  play-reads.Learnt,
-) (two-at t) two.Post
-two-expr-requires-2 t c κs = ?
+two-expr-requires-2 : (t : ℕ) → two-lts.Need-expr-requires-2 (two-env t) (two-at t) two.Post
+two-expr-requires-2 t c κs = (omega (arith, c .before .before .before .before .before .before .before .before .before .before .before .before .before .before .before .pre .0), tt)
 
--- src/lib.rt:245:9
-two-played-with-requires : (t : ℕ) → two-lts.Need-played-with-requires (
-  expr-below t,
-  expr.Post,
-  played-with-reads.Asked,
-  played-with-reads.Learnt,
-  play-reads.Asked,
-  play-reads.Learnt,
-) (two-at t) two.Post
-two-played-with-requires t c κs = ?
+two-played-with-requires : (t : ℕ) → two-lts.Need-played-with-requires (two-env t) (two-at t) two.Post
+two-played-with-requires t c κs = search needs
 
--- src/lib.rt:246:5
-two-play-requires : (t : ℕ) → two-lts.Need-play-requires (
-  expr-below t,
-  expr.Post,
-  played-with-reads.Asked,
-  played-with-reads.Learnt,
-  play-reads.Asked,
-  play-reads.Learnt,
-) (two-at t) two.Post
-two-play-requires t c κs = ?
+two-play-requires : (t : ℕ) → two-lts.Need-play-requires (two-env t) (two-at t) two.Post
+two-play-requires t c κs = search needs
 
--- src/lib.rt:226:1
-two-same-length : (t : ℕ) → two-lts.Need-same-length (
-  expr-below t,
-  expr.Post,
-  played-with-reads.Asked,
-  played-with-reads.Learnt,
-  play-reads.Asked,
-  play-reads.Learnt,
-) (two-at t) two.Post
-two-same-length t c = ?
+two-same-length : (t : ℕ) → two-lts.Need-same-length (two-env t) (two-at t) two.Post
+two-same-length t c = omega (arith, c .before .before .before .before .play .kept .0, c .before .before .before .before .play .kept .1 .0, c .before .before .before .before .before .before .before .before .before .before .before .before .before .before .expr2 .kept .1 .1 .0, c .before .before .before .before .before .before .before .before .before .before .before .before .before .before .expr2 .kept .1 .1 .1 .0, c .before .before .before .before .before .before .before .before .before .before .before .before .before .before .before .before .before .before .before .before .before .before .before .expr .kept .1 .1 .0, c .before .before .before .before .before .before .before .before .before .before .before .before .before .before .before .before .before .before .before .before .before .before .before .expr .kept .1 .1 .1 .0)
 
--- src/lib.rt:226:1
-two-same-length-2 : (t : ℕ) → two-lts.Need-same-length-2 (
-  expr-below t,
-  expr.Post,
-  played-with-reads.Asked,
-  played-with-reads.Learnt,
-  play-reads.Asked,
-  play-reads.Learnt,
-) (two-at t) two.Post
-two-same-length-2 t c = ?
+two-same-length-2 : (t : ℕ) → two-lts.Need-same-length-2 (two-env t) (two-at t) two.Post
+two-same-length-2 t c = omega (arith, c .before .before .before .before .play .kept .0, c .before .before .before .before .play .kept .1 .0, c .before .before .before .before .before .before .before .before .before .before .before .before .before .before .expr2 .kept .1 .1 .0, c .before .before .before .before .before .before .before .before .before .before .before .before .before .before .expr2 .kept .1 .1 .1 .0, c .before .before .before .before .before .before .before .before .before .before .before .before .before .before .before .before .before .before .before .before .before .before .before .expr .kept .1 .1 .0, c .before .before .before .before .before .before .before .before .before .before .before .before .before .before .before .before .before .before .before .before .before .before .before .expr .kept .1 .1 .1 .0)
 
--- src/lib.rt:226:1
-two-returns : (t : ℕ) → two-lts.Need-returns (
-  expr-below t,
-  expr.Post,
-  played-with-reads.Asked,
-  played-with-reads.Learnt,
-  play-reads.Asked,
-  play-reads.Learnt,
-) (two-at t) two.Post
-two-returns t c = ?
+two-returns : (t : ℕ) → two-lts.Need-returns (two-env t) (two-at t) two.Post
+unfolding twoBy
+two-returns t c = step _ _ _ _ (c .before .before .before .before .before .before .before .before .before .before .before .before .before .before .before .before .before .before .before .before .before .before .before .expr .ensures) (step _ _ _ _ (c .before .before .before .before .before .before .before .before .before .before .before .before .before .before .expr2 .ensures) (step _ _ _ _ (c .before .before .before .before .before .before .before .played-with .ensures) (c .before .before .before .before .play .ensures)))
 
 pub +all+ascribed+body+each+explicit+expr+one+owned+pbody+pquant+pred+preds+quant+two-spec :
     {M : Type 1} → statement M
@@ -5962,14 +1061,7 @@ pub +all+ascribed+body+each+explicit+expr+one+owned+pbody+pquant+pred+preds+quan
     μ-preds
     μ-quant
     μ-two
-    (λ t. all-lts.spec (
-      played-with-reads.Asked,
-      played-with-reads.Learnt,
-      play-reads.Asked,
-      play-reads.Learnt,
-      each-below t,
-      each.Post,
-    )
+    (λ t. all-lts.spec (all-env t)
     (all-at t)
     all.Post
     (all-played-with-requires t)
@@ -5980,16 +1072,7 @@ pub +all+ascribed+body+each+explicit+expr+one+owned+pbody+pquant+pred+preds+quan
     (all-same-length t)
     (all-same-length-2 t)
     (all-returns t))
-    (λ t. ascribed-lts.spec (
-      placed-reads.Asked,
-      placed-reads.Learnt,
-      expr-below t,
-      expr.Post,
-      ascription-reads.Asked,
-      ascription-reads.Learnt,
-      gave-reads.Asked,
-      gave-reads.Learnt,
-    )
+    (λ t. ascribed-lts.spec (ascribed-env t)
     (ascribed-at t)
     ascribed.Post
     (ascribed-placed-requires t)
@@ -5999,42 +1082,7 @@ pub +all+ascribed+body+each+explicit+expr+one+owned+pbody+pquant+pred+preds+quan
     (ascribed-same-length t)
     (ascribed-same-length-2 t)
     (ascribed-returns t))
-    (λ t. body-lts.spec (
-      placed-reads.Asked,
-      placed-reads.Learnt,
-      free-identifier-reads.Asked,
-      free-identifier-reads.Learnt,
-      bound-identifier-reads.Asked,
-      bound-identifier-reads.Learnt,
-      make-reads.Asked,
-      make-reads.Learnt,
-      check-atomic-reads.Asked,
-      check-atomic-reads.Learnt,
-      played-with-reads.Asked,
-      played-with-reads.Learnt,
-      play-reads.Asked,
-      play-reads.Learnt,
-      all-below t,
-      all.Post,
-      pred-below t,
-      pred.Post,
-      check-binary-reads.Asked,
-      check-binary-reads.Learnt,
-      two-below t,
-      two.Post,
-      check-associative-reads.Asked,
-      check-associative-reads.Learnt,
-      check-unary-reads.Asked,
-      check-unary-reads.Learnt,
-      one-below t,
-      one.Post,
-      quant-below t,
-      quant.Post,
-      ascribed-below t,
-      ascribed.Post,
-      stopped-reads.Asked,
-      stopped-reads.Learnt,
-    )
+    (λ t. body-lts.spec (body-env t)
     (body-at t)
     body.Post
     (body-enum-known-h t)
@@ -6109,20 +1157,7 @@ pub +all+ascribed+body+each+explicit+expr+one+owned+pbody+pquant+pred+preds+quan
     (body-same-length-20 t)
     (body-returns-11 t)
     (body-returns-12 t))
-    (λ t. each-lts.spec (
-      played-with-reads.Asked,
-      played-with-reads.Learnt,
-      play-reads.Asked,
-      play-reads.Learnt,
-      expr-below t,
-      expr.Post,
-      meet-reads.Asked,
-      meet-reads.Learnt,
-      next-reads.Asked,
-      next-reads.Learnt,
-      gave-reads.Asked,
-      gave-reads.Learnt,
-    )
+    (λ t. each-lts.spec (each-env t)
     (each-at t)
     each.Post
     each-Inv-loop
@@ -6140,22 +1175,7 @@ pub +all+ascribed+body+each+explicit+expr+one+owned+pbody+pquant+pred+preds+quan
     (each-same-length t)
     (each-same-length-2 t)
     (each-returns t))
-    (λ t. explicit-lts.spec (
-      paid-reads.Asked,
-      paid-reads.Learnt,
-      stopped-reads.Asked,
-      stopped-reads.Learnt,
-      placed-reads.Asked,
-      placed-reads.Learnt,
-      skip-reads.Asked,
-      skip-reads.Learnt,
-      expr-below t,
-      expr.Post,
-      meets-reads.Asked,
-      meets-reads.Learnt,
-      gave-reads.Asked,
-      gave-reads.Learnt,
-    )
+    (λ t. explicit-lts.spec (explicit-env t)
     (explicit-at t)
     explicit.Post
     (explicit-paid-requires t)
@@ -6173,16 +1193,7 @@ pub +all+ascribed+body+each+explicit+expr+one+owned+pbody+pquant+pred+preds+quan
     (explicit-same-length t)
     (explicit-same-length-2 t)
     (explicit-returns-3 t))
-    (λ t. expr-lts.spec (
-      expr-head-reads.Asked,
-      expr-head-reads.Learnt,
-      stopped-reads.Asked,
-      stopped-reads.Learnt,
-      explicit-below t,
-      explicit.Post,
-      owned-below t,
-      owned.Post,
-    )
+    (λ t. expr-lts.spec (expr-env t)
     (expr-at t)
     expr.Post
     (expr-expr-head-requires t)
@@ -6199,14 +1210,7 @@ pub +all+ascribed+body+each+explicit+expr+one+owned+pbody+pquant+pred+preds+quan
     (expr-same-length-3 t)
     (expr-same-length-4 t)
     (expr-returns-3 t))
-    (λ t. one-lts.spec (
-      expr-below t,
-      expr.Post,
-      played-with-reads.Asked,
-      played-with-reads.Learnt,
-      play-reads.Asked,
-      play-reads.Learnt,
-    )
+    (λ t. one-lts.spec (one-env t)
     (one-at t)
     one.Post
     (one-expr-requires t)
@@ -6215,16 +1219,7 @@ pub +all+ascribed+body+each+explicit+expr+one+owned+pbody+pquant+pred+preds+quan
     (one-same-length t)
     (one-same-length-2 t)
     (one-returns t))
-    (λ t. owned-lts.spec (
-      enter-reads.Asked,
-      enter-reads.Learnt,
-      stopped-reads.Asked,
-      stopped-reads.Learnt,
-      body-below t,
-      body.Post,
-      leave-reads.Asked,
-      leave-reads.Learnt,
-    )
+    (λ t. owned-lts.spec (owned-env t)
     (owned-at t)
     owned.Post
     (owned-enter-requires t)
@@ -6237,26 +1232,7 @@ pub +all+ascribed+body+each+explicit+expr+one+owned+pbody+pquant+pred+preds+quan
     (owned-same-length t)
     (owned-same-length-2 t)
     (owned-returns-3 t))
-    (λ t. pbody-lts.spec (
-      placed-reads.Asked,
-      placed-reads.Learnt,
-      check-relational-reads.Asked,
-      check-relational-reads.Learnt,
-      two-below t,
-      two.Post,
-      preds-below t,
-      preds.Post,
-      pred-below t,
-      pred.Post,
-      pquant-below t,
-      pquant.Post,
-      one-below t,
-      one.Post,
-      all-below t,
-      all.Post,
-      list-reads.Asked,
-      list-reads.Learnt,
-    )
+    (λ t. pbody-lts.spec (pbody-env t)
     (pbody-at t)
     pbody.Post
     (pbody-enum-known-h t)
@@ -6314,16 +1290,7 @@ pub +all+ascribed+body+each+explicit+expr+one+owned+pbody+pquant+pred+preds+quan
     (pbody-same-length-15 t)
     (pbody-same-length-16 t)
     (pbody-returns-10 t))
-    (λ t. pquant-lts.spec (
-      placed-reads.Asked,
-      placed-reads.Learnt,
-      declare-reads.Asked,
-      declare-reads.Learnt,
-      pred-below t,
-      pred.Post,
-      bounded-reads.Asked,
-      bounded-reads.Learnt,
-    )
+    (λ t. pquant-lts.spec (pquant-env t)
     (pquant-at t)
     pquant.Post
     (pquant-placed-requires t)
@@ -6333,16 +1300,7 @@ pub +all+ascribed+body+each+explicit+expr+one+owned+pbody+pquant+pred+preds+quan
     (pquant-same-length t)
     (pquant-same-length-2 t)
     (pquant-returns t))
-    (λ t. pred-lts.spec (
-      pred-head-reads.Asked,
-      pred-head-reads.Learnt,
-      stopped-reads.Asked,
-      stopped-reads.Learnt,
-      paid-reads.Asked,
-      paid-reads.Learnt,
-      pbody-below t,
-      pbody.Post,
-    )
+    (λ t. pred-lts.spec (pred-env t)
     (pred-at t)
     pred.Post
     (pred-pred-head-requires t)
@@ -6373,20 +1331,7 @@ pub +all+ascribed+body+each+explicit+expr+one+owned+pbody+pquant+pred+preds+quan
     (preds-same-length t)
     (preds-same-length-2 t)
     (preds-returns t))
-    (λ t. quant-lts.spec (
-      check-quantified-reads.Asked,
-      check-quantified-reads.Learnt,
-      placed-reads.Asked,
-      placed-reads.Learnt,
-      declare-reads.Asked,
-      declare-reads.Learnt,
-      pred-below t,
-      pred.Post,
-      one-below t,
-      one.Post,
-      bounded-reads.Asked,
-      bounded-reads.Learnt,
-    )
+    (λ t. quant-lts.spec (quant-env t)
     (quant-at t)
     quant.Post
     (quant-check-quantified-requires t)
@@ -6398,14 +1343,7 @@ pub +all+ascribed+body+each+explicit+expr+one+owned+pbody+pquant+pred+preds+quan
     (quant-same-length t)
     (quant-same-length-2 t)
     (quant-returns t))
-    λ t. two-lts.spec (
-      expr-below t,
-      expr.Post,
-      played-with-reads.Asked,
-      played-with-reads.Learnt,
-      play-reads.Asked,
-      play-reads.Learnt,
-    )
+    λ t. two-lts.spec (two-env t)
     (two-at t)
     two.Post
     (two-expr-requires t)

@@ -1,67 +1,56 @@
+use mathlib.Core.Path.{refl}
+use native.Mathlib.Omega.{arith}
+use borrow.Author.Needs.{needs}
+use Rattle.machine.specs.Forms.{step, yes-eq, no-eq}
+use Rattle.walker.specs.Root.{assignedBy}
 use Rattle.walker.proofs.assigned.Statement.{statement}
 use Rattle.walker.proofs.assigned.Tie as tie
-use Rattle.walker.proofs.assigned.Reads as reads
-use Rattle.walker.proofs.assigned.Lts as lts
-use Rattle.machine.proofs.stopped.Reads as stopped-reads
-use Rattle.walker.proofs.becomes_in.Reads as becomes-in-reads
-use Rattle.walker.proofs.becomes_such.Reads as becomes-such-reads
-use Rattle.walker.proofs.pairs.Reads as pairs-reads
 
--- src/lib.rt:654:17
 pairs-requires : tie.Need-pairs-requires
-pairs-requires c κs = ?
+pairs-requires c κs = search needs
 
--- src/lib.rt:655:17
 becomes-in-requires : tie.Need-becomes-in-requires
-becomes-in-requires c κs = ?
+becomes-in-requires c κs = search needs
 
--- src/lib.rt:656:17
 becomes-such-requires : tie.Need-becomes-such-requires
-becomes-such-requires c κs = ?
+becomes-such-requires c κs = search needs
 
--- src/lib.rt:657:14
 stopped-requires : tie.Need-stopped-requires
-stopped-requires c κs = ?
+stopped-requires c κs = search needs
 
--- src/lib.rt:640:1
 same-length : tie.Need-same-length
-same-length c = ?
+same-length c = omega (arith, c .before .before .before .before .pairs .kept .1 .1 .0, c .before .before .before .before .pairs .kept .1 .1 .1 .0)
 
--- src/lib.rt:640:1
 same-length-2 : tie.Need-same-length-2
-same-length-2 c = ?
+same-length-2 c = omega (arith, c .before .before .before .before .pairs .kept .1 .1 .0, c .before .before .before .before .pairs .kept .1 .1 .1 .0)
 
--- src/lib.rt:640:1
 returns : tie.Need-returns
-returns c = ?
+unfolding assignedBy
+returns c = yes-eq _ _ _ _ _ (c .before .before .before .before .before .before .before .match .keys1) (c .before .before .before .before .pairs .ensures)
 
--- src/lib.rt:640:1
 same-length-3 : tie.Need-same-length-3
-same-length-3 c = ?
+same-length-3 c = omega (arith, c .before .before .before .before .becomes-in .kept .1 .1 .0, c .before .before .before .before .becomes-in .kept .1 .1 .1 .0)
 
--- src/lib.rt:640:1
 same-length-4 : tie.Need-same-length-4
-same-length-4 c = ?
+same-length-4 c = omega (arith, c .before .before .before .before .becomes-in .kept .1 .1 .0, c .before .before .before .before .becomes-in .kept .1 .1 .1 .0)
 
--- src/lib.rt:640:1
 returns-2 : tie.Need-returns-2
-returns-2 c = ?
+unfolding assignedBy
+returns-2 c = no-eq (c .before .before .before .before .before .before .before .before .before .before .before .before .args .k) 0x30 _ _ _ (λ e. omega (arith, c .before .before .before .before .before .before .before .match .keys2)) (yes-eq _ _ _ _ _ (c .before .before .before .before .before .before .before .match .keys2) (c .before .before .before .before .becomes-in .ensures))
 
--- src/lib.rt:640:1
 same-length-5 : tie.Need-same-length-5
-same-length-5 c = ?
+same-length-5 c = omega (arith, c .before .before .before .before .becomes-such .kept .1 .1 .0, c .before .before .before .before .becomes-such .kept .1 .1 .1 .0)
 
--- src/lib.rt:640:1
 same-length-6 : tie.Need-same-length-6
-same-length-6 c = ?
+same-length-6 c = omega (arith, c .before .before .before .before .becomes-such .kept .1 .1 .0, c .before .before .before .before .becomes-such .kept .1 .1 .1 .0)
 
--- src/lib.rt:640:1
 returns-3 : tie.Need-returns-3
-returns-3 c = ?
+unfolding assignedBy
+returns-3 c = no-eq (c .before .before .before .before .before .before .before .before .before .before .before .before .args .k) 0x30 _ _ _ (λ e. omega (arith, c .before .before .before .before .before .before .before .match .keys3)) (no-eq (c .before .before .before .before .before .before .before .before .before .before .before .before .args .k) 0x31 _ _ _ (λ e. omega (arith, c .before .before .before .before .before .before .before .match .keys3)) (yes-eq _ _ _ _ _ (c .before .before .before .before .before .before .before .match .keys3) (c .before .before .before .before .becomes-such .ensures)))
 
--- src/lib.rt:640:1
 returns-4 : tie.Need-returns-4
-returns-4 c = ?
+unfolding assignedBy
+returns-4 c = no-eq _ _ _ _ _ (c .before .match .rest .0 .0 .1) (no-eq _ _ _ _ _ (c .before .match .rest .0 .1) (no-eq _ _ _ _ _ (c .before .match .rest .1) (step _ _ _ _ (c .stopped .ensures) refl)))
 
 pub assigned-spec : {M : Type 1} → statement M
 assigned-spec =
