@@ -16,7 +16,7 @@ use Rattle.heads.specs.Heads.{byteAt, fewAt}
 use Rattle.heads.specs.Heads as H
 use Rattle.heads.specs.Reads.{reach-all}
 use Rattle.formula.specs.Environment.{Env}
-use Rattle.formula.specs.Tree.{Expr, Pred, Formula, expression, predicate, becomes, becomes-in, becomes-such, targets, pairs, place}
+use Rattle.formula.specs.Tree.{Formula, expression, predicate, becomes, becomes-in, becomes-such, targets, pairs, place}
 use Rattle.formula.specs.Spell.{spell-decls, spell, spell-pred, spell-target, spell-targets, spell-pairs, spell-formula, size, size-pred, size-decls, size-targets, size-pairs, size-formula, Placed, Placed-targets, Placed-formula}
 use Rattle.formula_laws.specs.Fits.{Fits-root}
 use Rattle.formula_laws.specs.Complete.{byte-here, after-one, few-here, expr-first, pred-first}

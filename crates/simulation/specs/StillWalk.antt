@@ -19,7 +19,7 @@ use Rattle.heads.specs.declared.PredAt.the-variants as PA
 use Rattle.heads.specs.Heads.{reach, exprHead, predHead}
 use Rattle.machine.specs.declared.State.{State}
 use Rattle.machine.specs.declared.Plan.{Plan}
-use Rattle.machine.specs.Forms.{test, then}
+use Rattle.machine.specs.Forms.{then}
 use Rattle.machine.specs.Machine.{Mach, withSt, stoppedOf, placedOf, gaveOf, boundOf, listOf, makeOf, leaveOf}
 use Rattle.machine.specs.Types.{skipOf, freeOf, boundIdentifierOf, meetsOf, ascriptionOf, declareOf, timesOf}
 use Rattle.machine.specs.Scripts.{finite, checkAtomicOf, checkBinaryOf, checkUnaryOf, checkQuantifiedOf, checkRelationalOf, checkAssociativeOf, partsOf, playOf}
