@@ -46,7 +46,6 @@ use Rattle.formula.specs.Parse.{declBy, declIf, declAt, declsAt, exprBy, predBy
 use Rattle.types.specs.Limits.{max-bytes, max-depth, max-slots, max-opened, levels}
 use Rattle.formula_laws.specs.Fits.{is-bare, Fits-ty, Fits-spelling, Fits-decl, Fits-decls, Fits, Fits-all, Fits-pred, Fits-preds, Fits-targets, Fits-pairs, Fits-root, Fits-formula}
 use Rattle.formula_laws.specs.Sizes.{length-ty, length-spelling, length-decl, length-decls, length-expr, length-all, length-pred, length-preds, length-targets, length-pairs}
-use Rattle.formula_laws.specs.Complete.{byte-here}
 use Rattle.formula_laws.specs.Says.{Stand, stand-join, on-byte, on-few, choose, ExprSays, PredSays, DeclSays, TargetSays, expr-says, pred-says, decl-says, target-says}
 use Rattle.formula_laws.specs.Shape.{Shape-spelling, Shape-decl, Shape-decls, Shape, Shape-all, Shape-pred, Shape-preds, Shape-targets, Shape-pairs, Shape-formula, fits-spelling, fits-decl, fits-decls, fits-shape, fits-all, fits-pred, fits-preds, fits-targets}
 use Rattle.formula_laws.specs.Sound.{Holds, Step, TypeRead, SpellingRead, DeclRead, DeclsRead, ExprRead, ExprsRead, PredRead, PredsRead, TargetRead, TargetsRead, PairRead, step-own, step-declare, step-moved, sound-type, sound-spelling, sound-decl, sound-decls, sound-expr, sound-pred, sound-target, sound-targets, sound-pair, expr-by, pred-by, all-read, preds-read}
@@ -153,10 +152,6 @@ word-cong z f w v e = rw e
 
 byte-cong : {A : Type 0} (z : A) (f : ℕ → Place → A) (w v : Byte) → w ≡ v → onByte z w f ≡ onByte z v f
 byte-cong z f w v e = rw e
-
--- a byte that is there
-byte-in : (s : List ℕ) (p : Place) → p .0 < length s → B.Of (getD s (p .0) 0) (place (p .0 + 1)) ≡ byteAt s p
-byte-in s p h = sym (byte-here s (p .0) (getD s (p .0) 0) (drop (suc (p .0)) s) (drop-cons s (p .0) 0 h))
 
 module _ (names : ℕ) (s s′ : List ℕ) (m : ℕ) (short : m ≤ length s) (short′ : m ≤ length s′) (agree : (i : ℕ) → i < m → getD s i 0 ≡ getD s′ i 0) (bytes : (i : ℕ) → getD s i 0 < 256) where
   pub on-byte-same : {A : Type 0} (z : A) (p : Place) (f f′ : ℕ → Place → A) → p .0 < m → ((b : ℕ) (e : Place) → e .0 ≡ p .0 + 1 → f b e ≡ f′ b e) → onByte z (byteAt s p) f ≡ onByte z (byteAt s′ p) f′

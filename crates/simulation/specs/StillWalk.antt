@@ -3,16 +3,28 @@
 use Prim.Native.Nat.{ℕ, zero, suc}
 use mathlib.Core.Path.{_≡_, refl, _∙_, ap}
 use mathlib.Core.List.{List}
-use lib.Dec.{eqb, ltb}
+use mathlib.Core.Bool.{false}
+use lib.Dec.{eqb}
+use Rattle.types.specs.Limits.{levels, max-names}
 use Rattle.types.specs.declared.NodeRef.{NodeRef}
+use Rattle.types.specs.declared.Place.{Place}
+use Rattle.heads.specs.declared.ExprHead.{ExprHead}
+use Rattle.heads.specs.declared.ExprHead.the-variants.{Free, Bound, Literal, Atomic, Extension, Truth, Binary, Associative, Unary, Quantified, Ascribed, Explicit}
+use Rattle.heads.specs.declared.PredHead.{PredHead}
+use Rattle.heads.specs.declared.PredHead.the-variants.{Constant, Variable, Relational, Connective, Junction, Negation, Quantification, Simple, Multiple, Application}
+use Rattle.heads.specs.declared.ExprAt.{ExprAt}
+use Rattle.heads.specs.declared.ExprAt.the-variants as EA
+use Rattle.heads.specs.declared.PredAt.{PredAt}
+use Rattle.heads.specs.declared.PredAt.the-variants as PA
+use Rattle.heads.specs.Heads.{reach, exprHead, predHead}
 use Rattle.machine.specs.declared.State.{State}
 use Rattle.machine.specs.declared.Plan.{Plan}
-use Rattle.machine.specs.Forms.{test, then}
-use Rattle.machine.specs.Machine.{Mach, withSt, byteAt, wordAt, stoppedOf, movedOf, placedOf, gaveOf, boundOf, listOf, makeOf, leaveOf}
+use Rattle.machine.specs.Forms.{then}
+use Rattle.machine.specs.Machine.{Mach, withSt, stoppedOf, placedOf, gaveOf, boundOf, listOf, makeOf, leaveOf}
 use Rattle.machine.specs.Types.{skipOf, freeOf, boundIdentifierOf, meetsOf, ascriptionOf, declareOf, timesOf}
 use Rattle.machine.specs.Scripts.{finite, checkAtomicOf, checkBinaryOf, checkUnaryOf, checkQuantifiedOf, checkRelationalOf, checkAssociativeOf, partsOf, playOf}
-use Rattle.walker.specs.Walk.{meetOf, nextOf, oneBy, twoBy, childBy, childrenBy, allBy, countedBy, quantBy, predQuantBy, ascribedBy, typedBy, leafOf, bodyBy, predBodyBy, extension-plan, multiple-plan, application-plan, halts, enteredBy, exprBy, paidBy, exprOf, predOf}
-use Rattle.simulation.specs.Still.{test-both, Halted, still-stopped, still-moved, still-placed, still-gave, still-bound, still-paid, still-enter, still-skip, still-within, still-list, still-make, still-expect, still-leave, still-free, still-identifier, still-meets, still-ascription, still-declare, still-times, still-play}
+use Rattle.walker.specs.Walk.{meetOf, nextOf, oneBy, twoBy, childBy, childrenBy, allBy, quantBy, predQuantBy, ascribedBy, typedBy, bodyBy, predBodyBy, extension-plan, multiple-plan, application-plan, halts, onto, enteredBy, exprBy, predBy, paidBy, ownedBy, exprOf, predOf}
+use Rattle.simulation.specs.Still.{test-both, Halted, still-stopped, still-placed, still-gave, still-bound, still-paid, still-enter, still-skip, still-within, still-list, still-make, still-expect, still-leave, still-free, still-identifier, still-meets, still-ascription, still-declare, still-times, still-play}
 
 abbrev pub Still : (Mach → Mach) → Type 0
 Still E = (m : Mach) → Halted m → E m ≡ m
@@ -21,24 +33,14 @@ pub still-meet : (mode x y p : ℕ) (m : Mach) → Halted m → meetOf mode x y 
 unfolding meetOf
 still-meet mode x y p m h = test-both (eqb mode 0) _ _ m refl (still-expect x y p m h)
 
--- a move, and what follows it
-moves : (n : ℕ) (F : Mach → Mach) (m : Mach) → Halted m → F m ≡ m → F (withSt (movedOf n (m .st)) m) ≡ m
-moves n F m h f = ap F (still-within (movedOf n) m (still-moved n (m .st) h)) ∙ f
+-- a place taken, and what follows it
+places : (i : Place) (F : Mach → Mach) (m : Mach) → Halted m → F m ≡ m → onto i F m ≡ m
+unfolding then
+places i F m h f = ap F (still-within (placedOf (i .0)) m (still-placed (i .0) (m .st) h)) ∙ f
 
 still-halts : (m : Mach) → Halted m → halts m ≡ m
 unfolding then
 still-halts m h = still-within (stoppedOf 2) m (still-stopped 2 (m .st) h)
-
-pub still-leaf : (k : ℕ) (s env : List ℕ) (m : Mach) → Halted m → leafOf k s env m ≡ m
-unfolding leafOf then
-still-leaf k s env m h =
-    let a : ℕ = m .st .at .0 in
-    let w : ℕ = wordAt s a 1 in
-    let o : ℕ = byteAt s a 1 in
-    test-both (eqb k 0x01) _ _ m (moves 3 (freeOf env w a) m h (still-free env w a m h))
-    (test-both (eqb k 0x02) _ _ m (moves 3 (boundIdentifierOf w a) m h (still-identifier w a m h))
-    (test-both (eqb k 0x03) _ _ m (moves 1 (makeOf 0x41 0 0) m h (still-make 0x41 0 0 m h))
-    (test-both (eqb k 0x04) _ _ m (moves 2 (playOf (checkAtomicOf o) (partsOf 0 a 0 a a (m .st))) m h (still-play (checkAtomicOf o) (partsOf 0 a 0 a a (m .st)) m h)) (still-halts m h))))
 
 module _ (E : Mach → Mach) (e : Still E) where
   pub still-one : (n p : ℕ) (m : Mach) → Halted m → oneBy E n p m ≡ m
@@ -73,110 +75,127 @@ module _ (E : Mach → Mach) (e : Still E) where
       ∙ ap (λ (b : Mach). playOf (plan .last) (partsOf (m .st .last .0) k (b .st .last .0) k k (b .st)) b) (still-children plan n (m .st .last) m h)
       ∙ still-play (plan .last) (partsOf (m .st .last .0) k (m .st .last .0) k k (m .st)) m h
 
-  pub still-counted : (s : List ℕ) (plan : Plan) (m : Mach) → Halted m → countedBy E s plan m ≡ m
-  unfolding countedBy then
-  still-counted s plan m h = moves 3 (allBy E plan (wordAt s (m .st .at .0) 1)) m h (still-all plan (wordAt s (m .st .at .0) 1) m h)
-
-  pub still-ascribed : (s env : List ℕ) (m : Mach) → Halted m → ascribedBy E s env m ≡ m
+  pub still-ascribed : (s env : List ℕ) (i : Place) (m : Mach) → Halted m → ascribedBy E s env i m ≡ m
   unfolding ascribedBy then
-  still-ascribed s env m h =
+  still-ascribed s env i m h =
       let F : Mach → Mach = (λ (a : Mach). (let b = ascriptionOf s env (a .st .last .0) (m .st .at .0) a in withSt (gaveOf (a .st .last .0) (b .st)) b)) in
-      ap (λ (x : Mach). F (E x)) (still-within (movedOf 1) m (still-moved 1 (m .st) h)) ∙ ap F (e m h)
+      ap (λ (x : Mach). F (E x)) (still-within (placedOf (i .0)) m (still-placed (i .0) (m .st) h)) ∙ ap F (e m h)
       ∙ ap (λ (b : Mach). withSt (gaveOf (m .st .last .0) (b .st)) b) (still-ascription s env (m .st .last .0) (m .st .at .0) m h)
       ∙ still-within (gaveOf (m .st .last .0)) m (still-gave (m .st .last .0) (m .st) h)
 
-  pub still-explicit : (s : List ℕ) (m : Mach) → Halted m → typedBy E s m ≡ m
+  pub still-explicit : (s : List ℕ) (i : Place) (m : Mach) → Halted m → typedBy E s i m ≡ m
   unfolding typedBy then
-  still-explicit s m h =
-      let G : ℕ → Mach → Mach = (λ (k : ℕ) (a : Mach). (let d = meetsOf s (a .st .last .0) (a .st .from .0) (withSt (placedOf k (a .st)) a) in withSt (gaveOf (a .st .last .0) (placedOf (a .st .at .0) (d .st))) d)) in
-      ap (λ (v : State). G (v .at .0) (E (withSt (skipOf 65 s v) m))) (still-moved 1 (m .st) h)
-      ∙ ap (λ (v : State). G (m .st .at .0) (E (withSt v m))) (still-skip 65 s (m .st) h)
-      ∙ ap (G (m .st .at .0)) (e m h)
-      ∙ ap (λ (v : State). (let d = meetsOf s (m .st .last .0) (m .st .from .0) (withSt v m) in withSt (gaveOf (m .st .last .0) (placedOf (m .st .at .0) (d .st))) d)) (still-placed (m .st .at .0) (m .st) h)
+  still-explicit s i m h =
+      let G : Mach → Mach = (λ (a : Mach). (let d = meetsOf s (a .st .last .0) (a .st .from .0) (withSt (placedOf (i .0) (a .st)) a) in withSt (gaveOf (a .st .last .0) (placedOf (a .st .at .0) (d .st))) d)) in
+      ap (λ (v : State). G (E (withSt (skipOf levels s v) m))) (still-placed (i .0) (m .st) h)
+      ∙ ap (λ (v : State). G (E (withSt v m))) (still-skip levels s (m .st) h)
+      ∙ ap G (e m h)
+      ∙ ap (λ (v : State). (let d = meetsOf s (m .st .last .0) (m .st .from .0) (withSt v m) in withSt (gaveOf (m .st .last .0) (placedOf (m .st .at .0) (d .st))) d)) (still-placed (i .0) (m .st) h)
       ∙ ap (λ (d : Mach). withSt (gaveOf (m .st .last .0) (placedOf (m .st .at .0) (d .st))) d) (still-meets s (m .st .last .0) (m .st .from .0) m h)
       ∙ ap (λ (v : State). withSt (gaveOf (m .st .last .0) v) m) (still-placed (m .st .at .0) (m .st) h)
       ∙ still-within (gaveOf (m .st .last .0)) m (still-gave (m .st .last .0) (m .st) h)
 
   module _ (P : Mach → Mach) (q : Still P) (s env : List ℕ) where
-    pub still-quant : (m : Mach) → Halted m → quantBy E P s env m ≡ m
+    pub still-quant : (o n : ℕ) (i : Place) (m : Mach) → Halted m → quantBy E P s env o n i m ≡ m
     unfolding quantBy then
-    still-quant m h =
-        let n : ℕ = checkQuantifiedOf (byteAt s (m .st .at .0) 1) in
-        let k : ℕ = byteAt s (m .st .at .0) 2 in
+    still-quant o n i m h =
+        let k : ℕ = checkQuantifiedOf o in
         let C : Mach → Mach = (λ (c : Mach). withSt (boundOf (m .st .bound) (c .st)) c) in
-        ap (λ (x : Mach). C (oneBy E n (m .st .at .0) (P (declareOf s env k x)))) (still-within (movedOf 3) m (still-moved 3 (m .st) h))
-        ∙ ap (λ (x : Mach). C (oneBy E n (m .st .at .0) (P x))) (still-declare s env k m h)
-        ∙ ap (λ (x : Mach). C (oneBy E n (m .st .at .0) x)) (q m h)
-        ∙ ap C (still-one n (m .st .at .0) m h)
+        ap (λ (x : Mach). C (oneBy E k (m .st .at .0) (P (declareOf s env n x)))) (still-within (placedOf (i .0)) m (still-placed (i .0) (m .st) h))
+        ∙ ap (λ (x : Mach). C (oneBy E k (m .st .at .0) (P x))) (still-declare s env n m h)
+        ∙ ap (λ (x : Mach). C (oneBy E k (m .st .at .0) x)) (q m h)
+        ∙ ap C (still-one k (m .st .at .0) m h)
         ∙ still-within (boundOf (m .st .bound)) m (still-bound (m .st .bound) (m .st) h)
 
-    pub still-pquant : (m : Mach) → Halted m → predQuantBy P s env m ≡ m
+    pub still-pquant : (n : ℕ) (i : Place) (m : Mach) → Halted m → predQuantBy P s env n i m ≡ m
     unfolding predQuantBy then
-    still-pquant m h =
-        let k : ℕ = byteAt s (m .st .at .0) 1 in
+    still-pquant n i m h =
         let C : Mach → Mach = (λ (c : Mach). withSt (boundOf (m .st .bound) (c .st)) c) in
-        ap (λ (x : Mach). C (P (declareOf s env k x))) (still-within (movedOf 2) m (still-moved 2 (m .st) h))
-        ∙ ap (λ (x : Mach). C (P x)) (still-declare s env k m h)
+        ap (λ (x : Mach). C (P (declareOf s env n x))) (still-within (placedOf (i .0)) m (still-placed (i .0) (m .st) h))
+        ∙ ap (λ (x : Mach). C (P x)) (still-declare s env n m h)
         ∙ ap C (q m h)
         ∙ still-within (boundOf (m .st .bound)) m (still-bound (m .st .bound) (m .st) h)
 
-    pub still-body : (m : Mach) → Halted m → bodyBy E P s env m ≡ m
+    pub still-body : (g : ExprHead) (m : Mach) → Halted m → bodyBy E P s env g m ≡ m
     unfolding bodyBy then
-    still-body m h =
-        let k : ℕ = byteAt s (m .st .at .0) 0 in
-        let a : ℕ = m .st .at .0 in
-        let o : ℕ = byteAt s a 1 in
-        test-both (ltb k 0x05) _ _ m (still-leaf k s env m h)
-        (test-both (eqb k 0x05) _ _ m (still-counted s extension-plan m h)
-        (test-both (eqb k 0x06) _ _ m (moves 1 (λ x. makeOf 0x40 0 0 (P x)) m h (ap (makeOf 0x40 0 0) (q m h) ∙ still-make 0x40 0 0 m h))
-        (test-both (eqb k 0x07) _ _ m (moves 2 (twoBy E (checkBinaryOf o) a) m h (still-two (checkBinaryOf o) a m h))
-        (test-both (eqb k 0x08) _ _ m (moves 4 (allBy E (checkAssociativeOf o) (wordAt s a 2)) m h (still-all (checkAssociativeOf o) (wordAt s a 2) m h))
-        (test-both (eqb k 0x09) _ _ m (moves 2 (oneBy E (checkUnaryOf o) a) m h (still-one (checkUnaryOf o) a m h))
-        (test-both (eqb k 0x0A) _ _ m (still-quant m h)
-        (test-both (eqb k 0x0B) _ _ m (still-ascribed s env m h) (still-halts m h))))))))
+    still-body (Free x i) m h = places i (freeOf env (x .0) (m .st .at .0)) m h (still-free env (x .0) (m .st .at .0) m h)
+    still-body (Bound j i) m h = places i (boundIdentifierOf j (m .st .at .0)) m h (still-identifier j (m .st .at .0) m h)
+    still-body (Literal i) m h = places i (makeOf 0x41 0 0) m h (still-make 0x41 0 0 m h)
+    still-body (Atomic o i) m h = let a : ℕ = m .st .at .0 in places i (playOf (checkAtomicOf o) (partsOf 0 a 0 a a (m .st))) m h (still-play (checkAtomicOf o) (partsOf 0 a 0 a a (m .st)) m h)
+    still-body (Extension n i) m h = places i (allBy E extension-plan n) m h (still-all extension-plan n m h)
+    still-body (Truth i) m h = ap (makeOf 0x40 0 0) (places i P m h (q m h)) ∙ still-make 0x40 0 0 m h
+    still-body (Binary o i) m h = places i (twoBy E (checkBinaryOf o) (m .st .at .0)) m h (still-two (checkBinaryOf o) (m .st .at .0) m h)
+    still-body (Associative o n i) m h = places i (allBy E (checkAssociativeOf o) n) m h (still-all (checkAssociativeOf o) n m h)
+    still-body (Unary o i) m h = places i (oneBy E (checkUnaryOf o) (m .st .at .0)) m h (still-one (checkUnaryOf o) (m .st .at .0) m h)
+    still-body (Quantified o n i) m h = still-quant o n i m h
+    still-body (Ascribed i) m h = still-ascribed s env i m h
+    still-body (Explicit i) m h = still-halts m h
 
-    pub still-pbody : (m : Mach) → Halted m → predBodyBy E P s env m ≡ m
+    pub still-pbody : (g : PredHead) (m : Mach) → Halted m → predBodyBy E P s env g m ≡ m
     unfolding predBodyBy then
-    still-pbody m h =
-        let k : ℕ = byteAt s (m .st .at .0) 0 in
-        let a : ℕ = m .st .at .0 in
-        let w : ℕ = wordAt s a 1 in
-        let o : ℕ = byteAt s a 1 in
-        test-both (eqb k 0x20) _ _ m (moves 1 (λ x. x) m h refl)
-        (test-both (eqb k 0x21) _ _ m (moves 1 (λ x. x) m h refl)
-        (test-both (eqb k 0x22) _ _ m (moves 2 (twoBy E (checkRelationalOf o) a) m h (still-two (checkRelationalOf o) a m h))
-        (test-both (eqb k 0x23) _ _ m (moves 1 (timesOf P 2) m h (still-times P m (q m h) 2))
-        (test-both (eqb k 0x24) _ _ m (moves 3 (timesOf P w) m h (still-times P m (q m h) w))
-        (test-both (eqb k 0x25) _ _ m (moves 1 P m h (q m h))
-        (test-both (eqb k 0x26) _ _ m (still-pquant m h)
-        (test-both (eqb k 0x27) _ _ m (moves 1 (oneBy E finite a) m h (still-one finite a m h))
-        (test-both (eqb k 0x28) _ _ m (still-counted s multiple-plan m h)
-        (test-both (eqb k 0x29) _ _ m (ap (listOf 5 a 0xFFFF) (still-counted s application-plan m h) ∙ still-list 5 a 0xFFFF m h) (still-halts m h))))))))))
+    still-pbody (Constant i) m h = places i (λ x. x) m h refl
+    still-pbody (Variable i) m h = places i (λ x. x) m h refl
+    still-pbody (Relational o i) m h = places i (twoBy E (checkRelationalOf o) (m .st .at .0)) m h (still-two (checkRelationalOf o) (m .st .at .0) m h)
+    still-pbody (Connective i) m h = places i (timesOf P 2) m h (still-times P m (q m h) 2)
+    still-pbody (Junction n i) m h = places i (timesOf P n) m h (still-times P m (q m h) n)
+    still-pbody (Negation i) m h = places i P m h (q m h)
+    still-pbody (Quantification n i) m h = still-pquant n i m h
+    still-pbody (Simple i) m h = places i (oneBy E finite (m .st .at .0)) m h (still-one finite (m .st .at .0) m h)
+    still-pbody (Multiple n i) m h = places i (allBy E multiple-plan n) m h (still-all multiple-plan n m h)
+    still-pbody (Application n i) m h = ap (listOf 5 (m .st .at .0) 0xFFFF) (places i (allBy E application-plan n) m h (still-all application-plan n m h)) ∙ still-list 5 (m .st .at .0) 0xFFFF m h
+
+still-enteredby : (f : State → Mach) (m : Mach) → f (m .st) ≡ m → enteredBy f (m .st) m ≡ m
+unfolding enteredBy
+still-enteredby f m e = test-both (eqb (m .st .stop) 0) _ _ m e refl
 
 pub still-paidby : (f : State → Mach) (m : Mach) → Halted m → f (m .st) ≡ m → paidBy f m ≡ m
-unfolding paidBy enteredBy then
-still-paidby f m h e =
-    ap (λ (v : State). test (eqb (v .stop) 0) (λ _. f v) (λ _. withSt v m)) (still-paid (m .st) h) ∙ test-both (eqb (m .st .stop) 0) _ _ m e refl
+unfolding paidBy then
+still-paidby f m h e = ap (λ (v : State). enteredBy f v m) (still-paid (m .st) h) ∙ still-enteredby f m e
 
-pub still-exprby : (X : Mach → Mach) (f : State → Mach) (s : List ℕ) (m : Mach) → Halted m → X m ≡ m → f (m .st) ≡ m → exprBy X f s m ≡ m
-unfolding exprBy enteredBy then
-still-exprby X f s m h x e =
-    test-both (eqb (byteAt s (m .st .at .0) 0) 0x0C) _ _ m x
-    (ap (λ (v : State). test (eqb (v .stop) 0) (λ _. f v) (λ _. withSt v m)) (still-enter (m .st) h) ∙ test-both (eqb (m .st .stop) 0) _ _ m e refl)
+pub still-ownedby : (f : State → Mach) (m : Mach) → Halted m → f (m .st) ≡ m → ownedBy f m ≡ m
+unfolding ownedBy then
+still-ownedby f m h e = ap (λ (v : State). enteredBy f v m) (still-enter (m .st) h) ∙ still-enteredby f m e
+
+module _ (m : Mach) (h : Halted m) where
+  still-exprby : (X : Place → Mach) (f : ExprHead → Mach) (a : ExprAt) → ((i : Place) → X i ≡ m) → ((g : ExprHead) → f g ≡ m) → exprBy X f a m ≡ m
+  unfolding exprBy
+  still-exprby X f EA.Wrong x e = still-halts m h
+  still-exprby X f (EA.Is (Explicit i)) x e = x i
+  still-exprby X f (EA.Is (Free n i)) x e = e (Free n i)
+  still-exprby X f (EA.Is (Bound j i)) x e = e (Bound j i)
+  still-exprby X f (EA.Is (Literal i)) x e = e (Literal i)
+  still-exprby X f (EA.Is (Atomic o i)) x e = e (Atomic o i)
+  still-exprby X f (EA.Is (Extension n i)) x e = e (Extension n i)
+  still-exprby X f (EA.Is (Truth i)) x e = e (Truth i)
+  still-exprby X f (EA.Is (Binary o i)) x e = e (Binary o i)
+  still-exprby X f (EA.Is (Associative o n i)) x e = e (Associative o n i)
+  still-exprby X f (EA.Is (Unary o i)) x e = e (Unary o i)
+  still-exprby X f (EA.Is (Quantified o n i)) x e = e (Quantified o n i)
+  still-exprby X f (EA.Is (Ascribed i)) x e = e (Ascribed i)
+
+  still-predby : (f : PredHead → Mach) (a : PredAt) → ((g : PredHead) → f g ≡ m) → predBy f a m ≡ m
+  unfolding predBy
+  still-predby f PA.Wrong e = still-halts m h
+  still-predby f (PA.Is g) e = e g
 
 mutual
   unfolding exprOf predOf then
 
   pub still-expr : (l : ℕ) (s env : List ℕ) (m : Mach) → Halted m → exprOf l s env m ≡ m
   still-expr zero s env m h =
-      still-exprby (λ x. paidBy (λ e. halts (withSt e x)) x) (λ e. halts (withSt e m)) s m h (still-paidby (λ e. halts (withSt e m)) m h (still-halts m h)) (still-halts m h)
+      still-exprby m h (λ i. paidBy (λ v. halts (withSt v m)) m) (λ g. ownedBy (λ v. halts (withSt v m)) m) (exprHead max-names (reach s) false (m .st .at))
+      (λ i. still-paidby (λ v. halts (withSt v m)) m h (still-halts m h))
+      (λ g. still-ownedby (λ v. halts (withSt v m)) m h (still-halts m h))
   still-expr (suc l) s env m h =
-      still-exprby (λ x. paidBy (λ e. typedBy (λ y. exprOf l s env y) s (withSt e x)) x) (λ e. leaveOf (m .st .slots) (m .st .at .0) (bodyBy (λ y. exprOf l s env y) (λ y. predOf l s env y) s env (withSt e m))) s m h
-      (still-paidby (λ e. typedBy (λ y. exprOf l s env y) s (withSt e m)) m h (still-explicit (λ z. exprOf l s env z) (λ x k. still-expr l s env x k) s m h))
-      (ap (leaveOf (m .st .slots) (m .st .at .0)) (still-body (λ y. exprOf l s env y) (λ x k. still-expr l s env x k) (λ y. predOf l s env y) (λ x k. still-pred l s env x k) s env m h) ∙ still-leave (m .st .slots) (m .st .at .0) m h)
+      still-exprby m h (λ i. paidBy (λ v. typedBy (λ y. exprOf l s env y) s i (withSt v m)) m)
+      (λ g. ownedBy (λ v. leaveOf (m .st .slots) (m .st .at .0) (bodyBy (λ y. exprOf l s env y) (λ y. predOf l s env y) s env g (withSt v m))) m) (exprHead max-names (reach s) false (m .st .at))
+      (λ i. still-paidby (λ v. typedBy (λ y. exprOf l s env y) s i (withSt v m)) m h (still-explicit (λ z. exprOf l s env z) (λ x k. still-expr l s env x k) s i m h))
+      (λ g. still-ownedby (λ v. leaveOf (m .st .slots) (m .st .at .0) (bodyBy (λ y. exprOf l s env y) (λ y. predOf l s env y) s env g (withSt v m))) m h
+      (ap (leaveOf (m .st .slots) (m .st .at .0)) (still-body (λ y. exprOf l s env y) (λ x k. still-expr l s env x k) (λ y. predOf l s env y) (λ x k. still-pred l s env x k) s env g m h) ∙ still-leave (m .st .slots) (m .st .at .0) m h))
 
   pub still-pred : (l : ℕ) (s env : List ℕ) (m : Mach) → Halted m → predOf l s env m ≡ m
-  still-pred zero s env m h = still-paidby (λ e. halts (withSt e m)) m h (still-halts m h)
+  still-pred zero s env m h = still-predby m h (λ g. paidBy (λ v. halts (withSt v m)) m) (predHead (reach s) (m .st .at)) (λ g. still-paidby (λ v. halts (withSt v m)) m h (still-halts m h))
   still-pred (suc l) s env m h =
-      still-paidby (λ e. predBodyBy (λ y. exprOf l s env y) (λ y. predOf l s env y) s env (withSt e m)) m h
-      (still-pbody (λ y. exprOf l s env y) (λ x k. still-expr l s env x k) (λ y. predOf l s env y) (λ x k. still-pred l s env x k) s env m h)
+      still-predby m h (λ g. paidBy (λ v. predBodyBy (λ y. exprOf l s env y) (λ y. predOf l s env y) s env g (withSt v m)) m) (predHead (reach s) (m .st .at))
+      (λ g. still-paidby (λ v. predBodyBy (λ y. exprOf l s env y) (λ y. predOf l s env y) s env g (withSt v m)) m h
+      (still-pbody (λ y. exprOf l s env y) (λ x k. still-expr l s env x k) (λ y. predOf l s env y) (λ x k. still-pred l s env x k) s env g m h))
