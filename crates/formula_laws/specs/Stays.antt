@@ -40,6 +40,7 @@ use Rattle.formula.specs.declared.Out.{Out}
 use Rattle.formula.specs.declared.Out.the-variants.{Next, Stop}
 use Rattle.formula.specs.Tree.{Spelling, spells, no-type, Decl, plain, typed, annotated, Expr, free, bound, literal, atomic, extension, truth, binary, associative, unary, quantified, ascribed, explicit, Exprs, none, more, Pred, constant, variable, relational, connective, junction, negation, quantification, simple, multiple, application, Preds, end, also, Target, Formula, expression, predicate, becomes, becomes-in, becomes-such, decls, exprs, preds, targets, pairs, slots, slots-all, slots-pred, slots-preds, slots-pairs, slots-of}
 use Rattle.formula.specs.Spell.{spell-spelling, spell-decl, spell-decls, spell, spell-all, spell-pred, spell-preds, spell-target, spell-targets, spell-pairs, spell-formula, size-ty, size-spelling, size-decl, size-decls, size, size-all, size-pred, size-preds, size-targets, size-pairs, size-formula, Placed-decl, Placed-decls, Placed, Placed-all, Placed-pred, Placed-preds, Placed-targets, Placed-pairs, Placed-formula}
+use Rattle.heads.specs.Reads.{byte-in}
 use Rattle.heads.specs.Heads.{pick, place, byteOf, byteAt, onByte, onWord, wordAt, nameAt, opAt, countAt, fewAt, exprBody, exprHead, predBody, predHead, declBody, declHead, targetAt}
 use Rattle.formula.specs.Reader.{Got, ok, bad, andThen, onNext, many, moved, ownOf, declareOf, closed, closing, typeGot, typeIn, noType, spelledIn, spellingIn}
 use Rattle.formula.specs.Parse.{declBy, declIf, declAt, declsAt, exprBy, predBy, exprIf, predIf, exprDeep, predDeep, exprAt, predAt, exprsAt, predsAt, targetBy, targetIn, pairIn, targetsAt, pairsAt, becomesBy, becomesAt, rootBy, start, formulaAt, finish, whole, Parsed, parsed, too-long, faulty, parsedBy, parseOf}
@@ -126,10 +127,6 @@ rep-many m nil cons x x′ h (suc n) st =
     rep-then m (st .at .0) (x st) (x′ st) _ _ (h st) (λ a t. rep-last m (t .at .0) (many nil cons x n t) (many nil cons x′ n t) (cons a) (rep-many m nil cons x x′ h n t))
 
 -- ---- the same bytes, the same heads
-
-byte-in : (s : List ℕ) (p : Place) → p .0 < length s → B.Of (getD s (p .0) 0) (place (p .0 + 1)) ≡ byteAt s p
-unfolding byteAt byteOf
-byte-in s p h = rw (drop-cons s (p .0) 0 h)
 
 byte-ends : (s : List ℕ) (p : Place) (b : ℕ) (e : Place) → byteAt s p ≡ B.Of b e → p .0 ≤ e .0
 unfolding byteAt byteOf

@@ -17,7 +17,7 @@ pub reach-all : (s : List ℕ) → length s ≤ 4294967295 → reach s ≡ s
 unfolding reach
 reach-all s h = take-all 4294967295 s h
 
-byte-in : (s : List ℕ) (p : Place) → p .0 < length s → B.Of (getD s (p .0) 0) (place (p .0 + 1)) ≡ byteAt s p
+pub byte-in : (s : List ℕ) (p : Place) → p .0 < length s → B.Of (getD s (p .0) 0) (place (p .0 + 1)) ≡ byteAt s p
 unfolding byteAt byteOf
 byte-in s p h = rw (drop-cons s (p .0) 0 h)
 
