@@ -33,7 +33,7 @@ use Rattle.inference.specs.Finish.{Outcome, typed, failed}
 use Rattle.inference.specs.Infer.{either, sized, concluded, fitting, answer, answered, blamed, formed, inferOf, outputAfter, workAfter, zeros}
 use Rattle.inference.specs.Sizes.{Sized, sized-holds}
 use Rattle.machine.specs.Machine.{Mach}
-use Rattle.machine.specs.Forms.{test, then}
+use Rattle.forms.specs.Forms.{test, then}
 use Rattle.walker.specs.Root.{formulaOf}
 use Rattle.finisher.specs.Finisher.{most, finishOf, writeAnswerOf}
 use Rattle.simulation.specs.Whole.{walk-ends}

@@ -19,7 +19,7 @@ use Rattle.inference.specs.Answer.{Problem, spellProblems, spellSlots, refused,
 use Rattle.inference.specs.Finish.{Outcome, typed, failed}
 use Rattle.inference.specs.Infer.{either, zeros, fitting, answer, answered, outputAfter, workAfter}
 use Rattle.machine.specs.declared.State.{State}
-use Rattle.machine.specs.Forms.{test, then}
+use Rattle.forms.specs.Forms.{test, then}
 use Rattle.machine.specs.Machine.{Mach}
 use Rattle.memory.specs.Memory.{cleared}
 use Rattle.simulation.specs.Relation.{Wrote}

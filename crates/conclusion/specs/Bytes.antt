@@ -15,7 +15,7 @@ use Rattle.unification.specs.Arena.{read}
 use Rattle.unification.specs.Put.{Page, Sheet, put, lay, lay-length, lay-take, put-done, put-full}
 use Rattle.unification.specs.Put as P
 use Rattle.machine.specs.declared.State.{State}
-use Rattle.machine.specs.Forms.{then}
+use Rattle.forms.specs.Forms.{then}
 use Rattle.machine.specs.Machine.{Mach, bytesOf, overOf}
 use Rattle.finisher.specs.Finisher.{most, laidBy, spellOf}
 use Rattle.simulation.specs.Relation.{Wrote}

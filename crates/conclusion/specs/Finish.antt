@@ -20,7 +20,7 @@ use Rattle.inference.specs.Answer.{Problem, spellProblem, spellProblems, namele
 use Rattle.inference.specs.Finish.{Question, Findings, ask, askName, names, Outcome, typed, failed, settled, testSlots, walkProblems, finish}
 use Rattle.inference.specs.Finish as F
 use Rattle.machine.specs.declared.State.{State}
-use Rattle.machine.specs.Forms.{test, then}
+use Rattle.forms.specs.Forms.{test, then}
 use Rattle.machine.specs.Machine.{Mach, cell, wordOf}
 use Rattle.finisher.specs.Finisher.{settleOf, eachOf, nameOf, slotOf, testNamesOf, testSlotsOf, cleanOf, finishOf}
 use Rattle.simulation.specs.Relation.{Wrote, Stands, Listed, Filled}

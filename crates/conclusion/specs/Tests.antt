@@ -16,7 +16,7 @@ use Rattle.inference.specs.Finish.{Finding, found, unsolved, Question, Findings
 use Rattle.inference.specs.Finish as F
 use Rattle.inference.specs.Cost as C
 use Rattle.machine.specs.declared.State.{State}
-use Rattle.machine.specs.Forms.{test, then}
+use Rattle.forms.specs.Forms.{test, then}
 use Rattle.machine.specs.Machine.{Mach, withSt, leftOf, stoppedOf, listOf}
 use Rattle.finisher.specs.Finisher.{toldBy, settleOf, eachOf}
 use Rattle.simulation.specs.Relation.{Wrote}

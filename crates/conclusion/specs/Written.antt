@@ -19,7 +19,7 @@ use Rattle.inference.specs.Finish.{Question, Findings, ask, names, Outcome, typ
 use Rattle.inference.specs.Finish as F
 use Rattle.inference.specs.Cost.{ask-metered}
 use Rattle.machine.specs.declared.State.{State}
-use Rattle.machine.specs.Forms.{test, then}
+use Rattle.forms.specs.Forms.{test, then}
 use Rattle.machine.specs.Machine.{Mach, cell, wordOf, emitOf, twoOf, fourOf}
 use Rattle.finisher.specs.Finisher.{most, eachOf, spellOf, entryOf, typeOf, finishOf, writeNamesOf, writeSlotsOf, writeAnswerOf}
 use Rattle.simulation.specs.Relation.{Wrote, Stands, Listed, Filled}

@@ -13,7 +13,7 @@ use Rattle.unifier.specs.Answers.{told}
 use Rattle.write.specs.declared.Wrote.the-variants as Wr
 use Rattle.write.specs.Answers.{laid}
 use Rattle.machine.specs.declared.State.{State}
-use Rattle.machine.specs.Forms.{then}
+use Rattle.forms.specs.Forms.{then}
 use Rattle.machine.specs.Machine.{Mach, mach, whole, leftOf, stoppedOf, bytesOf, overOf, listOf}
 use Rattle.finisher.specs.Finisher.{toldBy, laidBy, eachOf}
 

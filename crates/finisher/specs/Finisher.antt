@@ -9,7 +9,7 @@ use Rattle.meter.specs.Meter.{Out, spent, halt, done, Why, broken, full}
 use Rattle.unification.specs.Arena as A
 use Rattle.unification.specs.Put as P
 use Rattle.machine.specs.declared.State.{State}
-use Rattle.machine.specs.Forms.{test, then}
+use Rattle.forms.specs.Forms.{test, then}
 use Rattle.machine.specs.Machine.{Mach, withSt, cell, wordOf, leftOf, stoppedOf, bytesOf, overOf, emitOf, twoOf, fourOf, listOf}
 
 -- ---- one reference

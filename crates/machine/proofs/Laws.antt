@@ -30,10 +30,11 @@ use Rattle.unifier.specs.declared.Unified.the-variants as Un
 use Rattle.makers.specs.Answers.{made}
 use Rattle.unifier.specs.Answers.{settled}
 use Rattle.machine.specs.declared.State.{State}
-use Rattle.machine.specs.Forms.{test, then}
+use Rattle.forms.specs.Forms.{test, then}
 use Rattle.machine.specs.declared.Parts.{Parts}
 use Rattle.machine.specs.Types.{typeHead, skipBy, skipOf, atomOf, liftBy, liftOf, noteOf, notedOf, notesBy, notesOf, meetsOf, annotationBy, claimOf, timesOf}
-use Rattle.machine.specs.Scripts.{itemAt, itemOf, itemsOf}
+use Rattle.operators.specs.Operators.{itemAt}
+use Rattle.machine.specs.Scripts.{itemOf, itemsOf}
 use Rattle.machine.specs.Machine.{Mach, mach, whole, withSt, smaller, stoppedOf, grownOf, leftOf, grownBy, settledBy, judgedBy, listOf, putOf, makeOf}
 
 -- ---- numbers

@@ -1,5 +1,3 @@
-pub mod Forms
 pub mod Machine
 pub mod Types
-pub mod Tables
 pub mod Scripts

@@ -10,7 +10,7 @@ use Rattle.meter.specs.Meter.{Out, spent, halt, done, Why, broken, full}
 use Rattle.unification.specs.Arena as A
 use Rattle.unification.specs.Make.{build}
 use Rattle.machine.specs.declared.State.{State}
-use Rattle.machine.specs.Forms.{test, then}
+use Rattle.forms.specs.Forms.{test, then}
 
 -- the state, the arena, the book behind it, and the output
 pub record Mach : Type 0 where

@@ -15,7 +15,7 @@ use Rattle.heads.specs.declared.DeclAt.{DeclAt}
 use Rattle.heads.specs.declared.DeclAt.the-variants.{Wrong, Is}
 use Rattle.heads.specs.Heads.{reach, byteAt, declHead, declEnd}
 use Rattle.machine.specs.declared.State.{State}
-use Rattle.machine.specs.Forms.{test, then}
+use Rattle.forms.specs.Forms.{test, then}
 use Rattle.machine.specs.Machine.{Mach, withSt, cell, wordOf, stoppedOf, placedOf, passedOf, gaveOf, enterOf, listOf, makeOf, expectOf, leaveOf, rememberOf, enrolOf, pushBoundOf}
 
 -- the head of the type record at a place

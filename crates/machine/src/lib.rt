@@ -1,10 +1,9 @@
 // The walk's machine: its state, and the steps that every walk is made of. The state goes by value; the arena is the first `size` words of the
 // work slice, the book stands behind it, and problems go straight into the output. A stopped state passes through every step unchanged.
-mod tables;
-
 use heads::Byte;
 use heads::DeclAt;
 use heads::DeclHead;
+use operators::Item;
 use types::Atom;
 use types::Head;
 use types::Name;
@@ -26,7 +25,7 @@ ghost use Rattle.unifier.specs.Answers.{settled, told};
 ghost use Rattle.machine.specs.declared.State as S;
 ghost use Rattle.machine.specs.Machine.{Mach, mach, whole, cell, smaller, stoppedOf, placedOf, passedOf, gaveOf, boundOf, paidOf, enterOf, grownOf, leftOf, arrivedOf, metOf, bytesOf, overOf, putOf, wordOf, emitOf, twoOf, fourOf, listOf, makeOf, expectOf, leaveOf, rememberOf, enrolOf, pushBoundOf};
 ghost use Rattle.machine.specs.Types.{skipOf, atomOf, liftOf, freeOf, boundIdentifierOf, noteOf, notedOf, notesOf, meetsOf, spelledOf, ascriptionOf, claimOf, declarationBy, declarationOf, declareOf};
-ghost use Rattle.machine.specs.Scripts.{checkAtomicOf, checkBinaryOf, checkUnaryOf, checkQuantifiedOf, checkRelationalOf, checkAssociativeOf, scriptAt, itemAt, chosenOf, placeOf, itemOf, playOf, partsOf};
+ghost use Rattle.machine.specs.Scripts.{chosenOf, placeOf, itemOf, playOf, partsOf};
 
 // ---- the state
 
@@ -803,262 +802,7 @@ pub fn declare(
     v
 }
 
-// ---- scripts: the nodes and comparisons of each operator, as data. A script is numbered; its row says which items it plays and what it gives.
-// no node, no comparison; gives its left part
-pub const NOTHING: u8 = 0;
-// ℤ, ℕ, ℕ1: P(ℤ)
-pub const INTEGERS: u8 = 1;
-// BOOL: P(BOOL)
-pub const BOOLEANS: u8 = 2;
-// TRUE, FALSE and bool(..): BOOL
-pub const TRUTH: u8 = 3;
-// pred, succ: P(ℤ × ℤ)
-pub const SUCCESSION: u8 = 4;
-// ∅: P(α)
-pub const EMPTY_SET: u8 = 5;
-// id: P(α × α)
-pub const IDENTITY: u8 = 6;
-// prj1: P((α × β) × α)
-pub const FIRST_OF: u8 = 7;
-// prj2: P((α × β) × β)
-pub const SECOND_OF: u8 = 8;
-// ↦
-pub const MAPLET: u8 = 9;
-// ↔ and its family
-pub const RELATIONS: u8 = 10;
-// ∖
-pub const DIFFERENCE: u8 = 11;
-// ×
-pub const CARTESIAN: u8 = 12;
-// ⊗
-pub const DIRECT: u8 = 13;
-// ∥
-pub const PARALLEL: u8 = 14;
-// ◁, ⩤
-pub const DOMAIN_CUT: u8 = 15;
-// ▷, ⩥
-pub const RANGE_CUT: u8 = 16;
-// ..
-pub const INTERVAL: u8 = 17;
-// −, ÷, mod, ^
-pub const ARITHMETIC: u8 = 18;
-// f(x)
-pub const APPLICATION: u8 = 19;
-// r[s]
-pub const IMAGE: u8 = 20;
-// card
-pub const CARDINALITY: u8 = 21;
-// ℙ, ℙ1
-pub const POWERSET: u8 = 22;
-// union, inter
-pub const GENERALIZED: u8 = 23;
-// dom
-pub const DOMAIN: u8 = 24;
-// ran
-pub const RANGE: u8 = 25;
-// min, max
-pub const EXTREMUM: u8 = 26;
-// r∼
-pub const CONVERSE: u8 = 27;
-// unary −
-pub const MINUS: u8 = 28;
-// quantified union and intersection: the expression is a set
-pub const SET: u8 = 29;
-// comprehension, and a set extension once its members are walked: P of the part
-pub const POWER: u8 = 30;
-// =, ≠
-pub const EQUALITY: u8 = 31;
-// <, ≤, >, ≥
-pub const ORDER: u8 = 32;
-// ∈, ∉
-pub const MEMBERSHIP: u8 = 33;
-// ⊂, ⊄, ⊆, ⊈
-pub const INCLUSION: u8 = 34;
-// finite: the expression is a set
-pub const FINITE: u8 = 35;
-// α
-pub const UNKNOWN: u8 = 36;
-// P(α × β)
-pub const RELATION: u8 = 37;
-// ℤ
-pub const INTEGER: u8 = 38;
-// forward composition: the next target, and the relation from the last one to it
-pub const FORTH: u8 = 39;
-// backward composition: the next source, and the relation from it to the last one
-pub const BACK: u8 = 40;
-// forward composition: from the first source to the last target
-pub const FORTH_ALL: u8 = 41;
-// backward composition: from the last source to the first target
-pub const BACK_ALL: u8 = 42;
-
-// The rule of an operator, by its number: the script that is played once its parts are walked.
-
-pub fn check_atomic(op: u8) -> u8
-    ensures { λ r. ⌜ r ≡ checkAtomicOf op ⌝ }
-{
-    match op {
-        0..=2 => INTEGERS,
-        3 => BOOLEANS,
-        4..=5 => TRUTH,
-        6..=7 => SUCCESSION,
-        8 => EMPTY_SET,
-        9 => IDENTITY,
-        10 => FIRST_OF,
-        _ => SECOND_OF,
-    }
-}
-
-pub fn check_binary(op: u8) -> u8
-    ensures { λ r. ⌜ r ≡ checkBinaryOf op ⌝ }
-{
-    match op {
-        0 => MAPLET,
-        1..=11 => RELATIONS,
-        12 => DIFFERENCE,
-        13 => CARTESIAN,
-        14 => DIRECT,
-        15 => PARALLEL,
-        16..=17 => DOMAIN_CUT,
-        18..=19 => RANGE_CUT,
-        20 => INTERVAL,
-        21..=24 => ARITHMETIC,
-        25 => APPLICATION,
-        _ => IMAGE,
-    }
-}
-
-pub fn check_unary(op: u8) -> u8
-    ensures { λ r. ⌜ r ≡ checkUnaryOf op ⌝ }
-{
-    match op {
-        0 => CARDINALITY,
-        1..=2 => POWERSET,
-        3..=4 => GENERALIZED,
-        5 => DOMAIN,
-        6 => RANGE,
-        7..=8 => EXTREMUM,
-        9 => CONVERSE,
-        _ => MINUS,
-    }
-}
-
-pub fn check_quantified(op: u8) -> u8
-    ensures { λ r. ⌜ r ≡ checkQuantifiedOf op ⌝ }
-{
-    match op {
-        0..=1 => SET,
-        _ => POWER,
-    }
-}
-
-pub fn check_relational(op: u8) -> u8
-    ensures { λ r. ⌜ r ≡ checkRelationalOf op ⌝ }
-{
-    match op {
-        0..=1 => EQUALITY,
-        2..=5 => ORDER,
-        6..=7 => MEMBERSHIP,
-        _ => INCLUSION,
-    }
-}
-
-// What is done with any number of children: a script before them, a script before each one that gives what it is compared with, and a script after
-// them. `mode` 0: no comparison; 1: each child with the same node; 2: each with a node of its own, which begins where the one before it ended.
-pub struct Plan {
-    pub first: u8,
-    pub link: u8,
-    pub last: u8,
-    pub mode: u8,
-}
-
-pub fn check_associative(op: u8) -> Plan
-    ensures { λ r. ⌜ r ≡ checkAssociativeOf op ⌝ }
-{
-    match op {
-        0..=1 => Plan {
-            first: EMPTY_SET,
-            link: NOTHING,
-            last: NOTHING,
-            mode: 1,
-        },
-        2 => Plan {
-            first: RELATION,
-            link: NOTHING,
-            last: NOTHING,
-            mode: 1,
-        },
-        3 => Plan {
-            first: UNKNOWN,
-            link: FORTH,
-            last: FORTH_ALL,
-            mode: 2,
-        },
-        4 => Plan {
-            first: UNKNOWN,
-            link: BACK,
-            last: BACK_ALL,
-            mode: 2,
-        },
-        _ => Plan {
-            first: INTEGER,
-            link: NOTHING,
-            last: NOTHING,
-            mode: 1,
-        },
-    }
-}
-
-// A script: its first item, the item after its last one, the operand that it gives.
-pub struct Script {
-    pub from: u8,
-    pub until: u8,
-    pub gives: u8,
-}
-
-fn script_at(n: u8) -> Script
-    ensures { λ r. ⌜ r ≡ scriptAt n ⌝ }
-{
-    let i = n as usize;
-    if i < 43 {
-        return Script {
-            from: tables::STARTS[i],
-            until: tables::STARTS[i + 1],
-            gives: tables::GIVES[i],
-        };
-    }
-    Script {
-        from: 0,
-        until: 0,
-        gives: 0,
-    }
-}
-
-pub struct Item {
-    pub kind: u8,
-    pub x: u8,
-    pub y: u8,
-    pub at: u8,
-}
-
-fn item_at(n: u32) -> Item
-    ensures { λ r. ⌜ r ≡ itemAt n ⌝ }
-{
-    let i = n as usize;
-    if i < 177 {
-        return Item {
-            kind: tables::DEEDS[i],
-            x: tables::LEFTS[i],
-            y: tables::RIGHTS[i],
-            at: tables::PLACES[i],
-        };
-    }
-    Item {
-        kind: 0,
-        x: 0,
-        y: 0,
-        at: 0,
-    }
-}
+// ---- scripts, played
 
 // What a script is played with: the references and places of the parts, the record's place, and the count of nodes as it begins.
 pub struct Parts {
@@ -1127,12 +871,12 @@ fn small(b: u8) -> u32
 pub fn play(work: &mut [u32], output: &mut [u8], size: u32, n: u8, p: Parts, st: State) -> State
     ensures { λ r. ⌜ mach size r (now (work .exit)) (now (output .exit)) ≡ playOf n p (mach size st (now (work .entry)) (now (output .entry))) ⌝ }
 {
-    let script = script_at(n);
+    let script = operators::script_at(n);
     let until = small(script.until);
     let mut v = st;
     let mut i = small(script.from);
     while i < until {
-        v = perform(work, output, size, item_at(i), p, v);
+        v = perform(work, output, size, operators::item_at(i), p, v);
         i += 1;
     }
     let gives = chosen(script.gives, p);

@@ -17,7 +17,7 @@ use Rattle.runner.specs.declared.Answer.the-variants.{Typed, Problems, O
 use Rattle.formula.specs.declared.Fault.{Fault}
 use Rattle.formula.specs.declared.Fault.the-variants as F
 use Rattle.types.specs.declared.Place.{Place}
-use Rattle.machine.specs.Forms.{test}
+use Rattle.forms.specs.Forms.{test}
 use Rattle.inference.specs.Infer.{sized}
 use borrow.Author.Tests.{le-leb, lt-leb}
 use Rattle.memory.specs.Memory.{cleared}

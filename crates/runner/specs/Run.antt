@@ -7,7 +7,7 @@ use lib.Dec.{eqb}
 use Rattle.formula.specs.declared.Fault.{Fault}
 use Rattle.formula.specs.declared.Fault.the-variants as F
 use Rattle.machine.specs.declared.State.{State}
-use Rattle.machine.specs.Forms.{test, then}
+use Rattle.forms.specs.Forms.{test, then}
 use Rattle.machine.specs.Machine.{Mach, mach}
 use Rattle.memory.specs.Memory.{cleared}
 use Rattle.walker.specs.Root.{formulaOf}

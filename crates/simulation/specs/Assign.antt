@@ -15,7 +15,7 @@ use Rattle.unification.specs.Make.{builds-power, builds-pair}
 use Rattle.walk.specs.Writer.{at, _>>=_, same, power, pair}
 use Rattle.walk.specs.Walk.{name, walk, target, products}
 use Rattle.walk.specs.Walk as K
-use Rattle.machine.specs.Forms.{then}
+use Rattle.forms.specs.Forms.{then}
 use Rattle.machine.specs.Machine.{Mach, makeOf, expectOf}
 use Rattle.machine.specs.Types.{timesOf}
 use Rattle.walker.specs.Walk.{exprOf}

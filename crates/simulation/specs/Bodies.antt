@@ -28,10 +28,11 @@ use Rattle.walk.specs.Writer.{Walk, W, done, _>>=_, unknown, boolean, integer, 
 use Rattle.walk.specs.Scripts.{Script, perform, three, never-script, atomic-scripts, binary-scripts, unary-scripts, quantified-scripts, no-script, associative-scripts}
 use Rattle.walk.specs.Walk.{each, gather, counted, name, meets, ascription, declare, over, scriptOf, walk, walk-all, walk-pred}
 use Rattle.machine.specs.declared.State.{State}
-use Rattle.machine.specs.Forms.{then}
+use Rattle.forms.specs.Forms.{then}
 use Rattle.machine.specs.Machine.{Mach, withSt, placedOf, gaveOf, boundOf, makeOf}
 use Rattle.machine.specs.Types.{skipOf, freeOf, boundIdentifierOf, meetsOf, ascriptionOf, declareOf}
-use Rattle.machine.specs.Scripts.{partsOf, playOf, checkAtomicOf, checkBinaryOf, checkUnaryOf, checkQuantifiedOf, checkAssociativeOf}
+use Rattle.operators.specs.Operators.{checkAtomicOf, checkBinaryOf, checkUnaryOf, checkQuantifiedOf, checkAssociativeOf}
+use Rattle.machine.specs.Scripts.{partsOf, playOf}
 use Rattle.walker.specs.Walk.{oneBy, twoBy, allBy, extension-plan, quantBy, ascribedBy, typedBy, bodyBy}
 use Rattle.simulation.specs.Relation.{Opened, Ended, Runs}
 use Rattle.simulation.specs.Bind.{runs-bind}

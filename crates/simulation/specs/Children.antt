@@ -18,8 +18,8 @@ use Rattle.walk.specs.Writer.{Walk, W, done, _>>=_, same, unknown}
 use Rattle.walk.specs.Scripts.{pick, three}
 use Rattle.walk.specs.Walk.{Mode, loose, each, links, relation, stepped, last, walk, walk-all}
 use Rattle.machine.specs.declared.State.{State}
-use Rattle.machine.specs.declared.Plan.{Plan}
-use Rattle.machine.specs.Forms.{then}
+use Rattle.operators.specs.declared.Plan.{Plan}
+use Rattle.forms.specs.Forms.{then}
 use Rattle.machine.specs.Machine.{Mach, withSt, gaveOf, expectOf}
 use Rattle.machine.specs.Scripts.{partsOf, playOf}
 use Rattle.walker.specs.Walk.{meetOf, nextOf, childBy, childrenBy, allBy}

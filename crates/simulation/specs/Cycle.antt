@@ -31,7 +31,7 @@ use Rattle.formula_laws.specs.Sizes.{length-ty, length-decls, length-expr, leng
 use Rattle.unification.specs.Arena.{U}
 use Rattle.walk.specs.Writer.{W, enter, own}
 use Rattle.walk.specs.Walk.{expr, walk, walk-all, walk-pred, walk-preds}
-use Rattle.machine.specs.Forms.{test, then}
+use Rattle.forms.specs.Forms.{test, then}
 use Rattle.machine.specs.Machine.{Mach, withSt, paidOf, enterOf, leaveOf}
 use Rattle.walker.specs.Walk.{typedBy, bodyBy, predBodyBy, enteredBy, exprBy, predBy, paidBy, ownedBy, exprOf, predOf}
 use Rattle.simulation.specs.Relation.{Runs}

@@ -33,7 +33,7 @@ use Rattle.walk.specs.Writer.{Row, find, done, _>>=_, enter, own, unknown, prob
 use Rattle.walk.specs.Walk.{meets, spelled, ascription, claim, at-decl, declare, over}
 use Rattle.inference.specs.Finish.{names}
 use Rattle.machine.specs.declared.State.{State}
-use Rattle.machine.specs.Forms.{test, then}
+use Rattle.forms.specs.Forms.{test, then}
 use Rattle.machine.specs.Machine.{Mach, withSt, cell, putOf, stoppedOf, placedOf, arrivedOf, boundOf, leftOf, paidOf, enterOf, makeOf, listOf, leaveOf, pushBoundOf}
 use Rattle.machine.specs.Types.{meetsOf, spelledOf, ascriptionBy, ascriptionOf, annotationBy, claimOf, declarationBy, declarationOf, timesOf, declareOf}
 use Rattle.simulation.specs.Relation.{Books, Ended, Runs}

@@ -17,11 +17,12 @@ use Rattle.walk.specs.Writer.{W, done, _>>=_, unknown, power, problem}
 use Rattle.walk.specs.Scripts.{Script, scripted, new, an-unknown, a-power, left, perform, three, Gather, all-as, linked, no-script}
 use Rattle.walk.specs.Walk.{Mode, loose, each, links, relation, last, gather, walk-all}
 use Rattle.machine.specs.declared.State.{State}
-use Rattle.machine.specs.declared.Plan.{Plan}
-use Rattle.machine.specs.Forms.{test}
-use Rattle.machine.specs.Tables.{deedsT, leftsT, rightsT, placesT, startsT, givesT}
+use Rattle.operators.specs.declared.Plan.{Plan}
+use Rattle.forms.specs.Forms.{test}
+use Rattle.operators.specs.Tables.{deedsT, leftsT, rightsT, placesT, startsT, givesT}
 use Rattle.machine.specs.Machine.{Mach, withSt, listOf}
-use Rattle.machine.specs.Scripts.{scriptAt, itemAt, partsOf, playOf}
+use Rattle.operators.specs.Operators.{scriptAt, itemAt}
+use Rattle.machine.specs.Scripts.{partsOf, playOf}
 use Rattle.walker.specs.Walk.{allBy}
 use Rattle.simulation.specs.Relation.{Runs}
 use Rattle.simulation.specs.Bind.{runs-bind}

@@ -17,7 +17,7 @@ use Rattle.unification.specs.Make.{builds-boolean, builds-integer, builds-given
 use Rattle.walk.specs.Writer.{_>>=_, power, pair}
 use Rattle.walk.specs.Walk.{atom, lift}
 use Rattle.machine.specs.declared.State.{State}
-use Rattle.machine.specs.Forms.{then}
+use Rattle.forms.specs.Forms.{then}
 use Rattle.machine.specs.Machine.{Mach, withSt, passedOf, makeOf}
 use Rattle.machine.specs.Types.{typeHead, atomOf, liftBy, liftOf}
 use Rattle.simulation.specs.Relation.{Runs}

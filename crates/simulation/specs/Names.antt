@@ -21,7 +21,7 @@ use Rattle.walk.specs.Writer.{Met, Row, Found, at, absent, found, find, Walk, W
 use Rattle.walk.specs.Walk.{atom, lift, fromEnv, known, counted, name}
 use Rattle.inference.specs.Finish.{Question, askName, names}
 use Rattle.machine.specs.declared.State.{State}
-use Rattle.machine.specs.Forms.{test, then}
+use Rattle.forms.specs.Forms.{test, then}
 use Rattle.machine.specs.Machine.{Mach, withSt, cell, putOf, placedOf, gaveOf, metOf, makeOf, listOf, rememberOf, enrolOf}
 use Rattle.machine.specs.Types.{liftOf, freeOf, boundIdentifierOf}
 use Rattle.simulation.specs.Relation.{Stands, Noted, Listed, Opened, Entered, Books, Ended, Runs, unmet, missing}

@@ -21,7 +21,7 @@ use Rattle.walk.specs.Writer.{Row, node, same, problem}
 use Rattle.inference.specs.Answer.{spellProblems}
 use Rattle.inference.specs.Finish.{walkProblems}
 use Rattle.machine.specs.declared.State.{State}
-use Rattle.machine.specs.Forms.{then}
+use Rattle.forms.specs.Forms.{then}
 use Rattle.machine.specs.Machine.{Mach, withSt, withArena, stoppedOf, leftOf, grownOf, grownBy, makeOf, judgedBy, settledBy, expectOf, listOf}
 use Rattle.simulation.specs.Relation.{Wrote, Stands, Books, Ended, Runs}
 use Rattle.simulation.specs.Stand.{test-yes, books-as, no-slots}

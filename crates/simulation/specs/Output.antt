@@ -13,7 +13,7 @@ use borrow.Author.Tests.{lt-ltb, le-ltb, eq-eqb}
 use Rattle.inference.specs.Answer.{Problem, two, four, spellProblem, spellProblems, nameless}
 use Rattle.inference.specs.Finish.{walkProblems}
 use Rattle.machine.specs.declared.State.{State}
-use Rattle.machine.specs.Forms.{then}
+use Rattle.forms.specs.Forms.{then}
 use Rattle.machine.specs.Machine.{Mach, withSt, bytesOf, overOf, emitOf, twoOf, fourOf, listOf}
 use Rattle.simulation.specs.Relation.{Wrote}
 use Rattle.simulation.specs.Stand.{test-yes, test-no}

@@ -15,12 +15,13 @@ use Rattle.typing.specs.Equations.{look, firstOf, forward, backward}
 use Rattle.walk.specs.Writer.{Row, Walk}
 use Rattle.walk.specs.Scripts.{Ref, Item, an-unknown, a-power, new, Script, scripted, pick, perform, three, left, only, never-items, never-script, atomic-scripts, binary-scripts, unary-scripts, quantified-scripts, relational-scripts, simple-script, Gather, all-as, linked, no-script, associative-scripts}
 use Rattle.machine.specs.declared.State.{State}
-use Rattle.machine.specs.declared.Plan.{Plan}
+use Rattle.operators.specs.declared.Plan.{Plan}
 use Rattle.machine.specs.declared.Parts.{Parts}
-use Rattle.machine.specs.Forms.{test}
-use Rattle.machine.specs.Tables.{deedsT, leftsT, rightsT, placesT, startsT, givesT}
+use Rattle.forms.specs.Forms.{test}
+use Rattle.operators.specs.Tables.{deedsT, leftsT, rightsT, placesT, startsT, givesT}
 use Rattle.machine.specs.Machine.{Mach}
-use Rattle.machine.specs.Scripts.{scriptAt, itemAt, chosenOf, placeOf, partsOf, playOf, checkAtomicOf, checkBinaryOf, checkUnaryOf, checkQuantifiedOf, checkRelationalOf, checkAssociativeOf}
+use Rattle.operators.specs.Operators.{scriptAt, itemAt, checkAtomicOf, checkBinaryOf, checkUnaryOf, checkQuantifiedOf, checkRelationalOf, checkAssociativeOf}
+use Rattle.machine.specs.Scripts.{chosenOf, placeOf, partsOf, playOf}
 use Rattle.simulation.specs.Relation.{Ended, Runs}
 use Rattle.simulation.specs.Steps.{told}
 use Rattle.simulation.specs.Nodes.{Came}

@@ -17,11 +17,12 @@ use Rattle.unification.specs.Make.{builds-unknown, builds-boolean, builds-integ
 use Rattle.walk.specs.Writer.{Row, W, done, glue, _>>=_, node, same}
 use Rattle.walk.specs.Scripts.{Ref, arg, new, Item, an-unknown, a-bool, an-int, a-power, a-pair, equal, Script, pick, play}
 use Rattle.machine.specs.declared.State.{State}
-use Rattle.machine.specs.declared.Item as MI
+use Rattle.operators.specs.declared.Item as MI
 use Rattle.machine.specs.declared.Parts.{Parts}
-use Rattle.machine.specs.Forms.{then}
+use Rattle.forms.specs.Forms.{then}
 use Rattle.machine.specs.Machine.{Mach, withSt, gaveOf, makeOf, expectOf}
-use Rattle.machine.specs.Scripts.{scriptAt, itemAt, chosenOf, placeOf, itemOf, itemsOf, playOf}
+use Rattle.operators.specs.Operators.{scriptAt, itemAt}
+use Rattle.machine.specs.Scripts.{chosenOf, placeOf, itemOf, itemsOf, playOf}
 use Rattle.simulation.specs.Relation.{Runs}
 use Rattle.simulation.specs.Bind.{runs-bind}
 use Rattle.simulation.specs.Stand.{test-yes, test-no, gave-eq, runs-if, runs-map, runs-stand}

@@ -18,10 +18,10 @@ use Rattle.unification.specs.Ops.{Op, nodes}
 use Rattle.walk.specs.Writer.{Row, Walk, W, done, glue, _>>=_, unknown, power, problem}
 use Rattle.walk.specs.Scripts.{scripted, perform, three, left, only, never-items, relational-scripts, simple-script}
 use Rattle.walk.specs.Walk.{loose, each, declare, over, walk, walk-all, walk-pred, walk-preds}
-use Rattle.machine.specs.Forms.{then}
+use Rattle.forms.specs.Forms.{then}
 use Rattle.machine.specs.Machine.{Mach, withSt, boundOf, listOf}
 use Rattle.machine.specs.Types.{declareOf, timesOf}
-use Rattle.machine.specs.Scripts.{finite, checkRelationalOf}
+use Rattle.operators.specs.Operators.{finite, checkRelationalOf}
 use Rattle.walker.specs.Walk.{oneBy, twoBy, allBy, multiple-plan, application-plan, predQuantBy, predBodyBy}
 use Rattle.simulation.specs.Relation.{Runs}
 use Rattle.simulation.specs.Bind.{runs-bind}

@@ -25,7 +25,7 @@ use Rattle.unification.specs.Ops.{Op}
 use Rattle.walk.specs.Writer.{Row, W, done, glue, _>>=_, enter}
 use Rattle.walk.specs.Walk.{over, walk, walk-pred, forget, walk-formula}
 use Rattle.walk.specs.Walk as K
-use Rattle.machine.specs.Forms.{test, then}
+use Rattle.forms.specs.Forms.{test, then}
 use Rattle.machine.specs.Machine.{Mach, withSt, placedOf, boundOf, paidOf}
 use Rattle.walker.specs.Walk.{exprOf, predOf}
 use Rattle.walker.specs.Root.{pairBy, pairsOf, becomesInOf, becomesSuchOf, assignedBy, assignmentBy, rootBy, formulaOf}

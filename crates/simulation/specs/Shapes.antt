@@ -14,11 +14,12 @@ use Rattle.walk.specs.Writer.{Row, W, glue, _>>=_, node, unknown, power, UNKNOW
 use Rattle.walk.specs.Scripts.{new, an-unknown, a-power, a-pair, Script, scripted, pick, play, perform, three, left, right}
 use Rattle.walk.specs.Walk.{Mode, loose, each, links, relation, walk}
 use Rattle.machine.specs.declared.State.{State}
-use Rattle.machine.specs.declared.Plan.{Plan}
-use Rattle.machine.specs.Forms.{test, then}
-use Rattle.machine.specs.Tables.{deedsT, leftsT, rightsT, placesT, startsT, givesT}
+use Rattle.operators.specs.declared.Plan.{Plan}
+use Rattle.forms.specs.Forms.{test, then}
+use Rattle.operators.specs.Tables.{deedsT, leftsT, rightsT, placesT, startsT, givesT}
 use Rattle.machine.specs.Machine.{Mach, withSt, gaveOf}
-use Rattle.machine.specs.Scripts.{scriptAt, itemAt, chosenOf, partsOf, itemsOf, playOf}
+use Rattle.operators.specs.Operators.{scriptAt, itemAt}
+use Rattle.machine.specs.Scripts.{chosenOf, partsOf, itemsOf, playOf}
 use Rattle.walker.specs.Walk.{oneBy, twoBy}
 use Rattle.simulation.specs.Relation.{Runs}
 use Rattle.simulation.specs.Bind.{runs-bind}

@@ -21,7 +21,7 @@ use Rattle.unification.specs.Ops as Ops
 use Rattle.walk.specs.Writer.{Row, Found, at, absent, find, Walk, W, done, glue, _>>=_, enter, own, node, same, enrol}
 use Rattle.walk.specs.Walk.{atom, lift, fromEnv, known, name, notes, meets, spelled, claim, declare, over, expr, walk-pred, target, targets-of, shares}
 use Rattle.walk.specs.Walk as K
-use Rattle.machine.specs.Forms.{then}
+use Rattle.forms.specs.Forms.{then}
 use Rattle.machine.specs.Machine.{Mach, withSt, withArena, cell, leftOf, boundOf, emitOf, twoOf, fourOf, listOf, judgedBy, settledBy, expectOf}
 use Rattle.machine.specs.Types.{declareOf, timesOf}
 use Rattle.walker.specs.Walk.{exprOf, predOf}

@@ -17,7 +17,7 @@ use Rattle.unification.specs.Exec.{exec-unpaid, exec-paid}
 use Rattle.walk.specs.Writer.{Row, Found, at, absent, find, W, enter, own}
 use Rattle.inference.specs.Finish.{Question, names}
 use Rattle.machine.specs.declared.State.{State}
-use Rattle.machine.specs.Forms.{test, then}
+use Rattle.forms.specs.Forms.{test, then}
 use Rattle.machine.specs.Machine.{Mach, withSt, cell, putOf, stoppedOf, leftOf, arrivedOf, paidOf, enterOf, leaveOf}
 use Rattle.simulation.specs.Relation.{Stands, Noted, Listed, Opened, Entered, Filled, Books, Ended, Runs}
 use Rattle.simulation.specs.Stand.{test-yes, test-no, books-as}

@@ -17,7 +17,7 @@ use Rattle.unification.specs.Exec.{exec-nil}
 use Rattle.walk.specs.Writer.{Row, find, Walk, W, done}
 use Rattle.inference.specs.Finish.{names}
 use Rattle.machine.specs.declared.State.{State}
-use Rattle.machine.specs.Forms.{test}
+use Rattle.forms.specs.Forms.{test}
 use Rattle.machine.specs.Machine.{Mach, withSt, placedOf, passedOf, gaveOf}
 use Rattle.simulation.specs.Relation.{Stands, Noted, Listed, Opened, Entered, Books, Slots, Ended, Runs}
 

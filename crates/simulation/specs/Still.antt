@@ -14,12 +14,13 @@ use Rattle.heads.specs.declared.DeclAt.{DeclAt}
 use Rattle.heads.specs.declared.DeclAt.the-variants.{Wrong, Is}
 use Rattle.heads.specs.Heads.{reach, byteAt, declHead, declEnd}
 use Rattle.machine.specs.declared.State.{State}
-use Rattle.machine.specs.declared.Item.{Item}
+use Rattle.operators.specs.declared.Item.{Item}
 use Rattle.machine.specs.declared.Parts.{Parts}
-use Rattle.machine.specs.Forms.{test, then}
+use Rattle.forms.specs.Forms.{test, then}
 use Rattle.machine.specs.Machine.{Mach, withSt, stoppedOf, placedOf, passedOf, gaveOf, boundOf, paidOf, enterOf, emitOf, twoOf, fourOf, listOf, makeOf, expectOf, leaveOf, rememberOf, enrolOf, pushBoundOf}
 use Rattle.machine.specs.Types.{skipOf, liftOf, freeOf, boundIdentifierOf, noteOf, notesOf, meetsOf, spelledOf, ascriptionBy, ascriptionOf, annotationBy, claimOf, declarationBy, declarationOf, timesOf, declareOf}
-use Rattle.machine.specs.Scripts.{scriptAt, itemAt, chosenOf, itemOf, itemsOf, playOf}
+use Rattle.operators.specs.Operators.{scriptAt, itemAt}
+use Rattle.machine.specs.Scripts.{chosenOf, itemOf, itemsOf, playOf}
 use Rattle.simulation.specs.Stand.{test-no}
 
 -- either way

@@ -18,11 +18,12 @@ use Rattle.heads.specs.declared.PredAt.{PredAt}
 use Rattle.heads.specs.declared.PredAt.the-variants as PA
 use Rattle.heads.specs.Heads.{reach, exprHead, predHead}
 use Rattle.machine.specs.declared.State.{State}
-use Rattle.machine.specs.declared.Plan.{Plan}
-use Rattle.machine.specs.Forms.{then}
+use Rattle.operators.specs.declared.Plan.{Plan}
+use Rattle.forms.specs.Forms.{then}
 use Rattle.machine.specs.Machine.{Mach, withSt, stoppedOf, placedOf, gaveOf, boundOf, listOf, makeOf, leaveOf}
 use Rattle.machine.specs.Types.{skipOf, freeOf, boundIdentifierOf, meetsOf, ascriptionOf, declareOf, timesOf}
-use Rattle.machine.specs.Scripts.{finite, checkAtomicOf, checkBinaryOf, checkUnaryOf, checkQuantifiedOf, checkRelationalOf, checkAssociativeOf, partsOf, playOf}
+use Rattle.operators.specs.Operators.{finite, checkAtomicOf, checkBinaryOf, checkUnaryOf, checkQuantifiedOf, checkRelationalOf, checkAssociativeOf}
+use Rattle.machine.specs.Scripts.{partsOf, playOf}
 use Rattle.walker.specs.Walk.{meetOf, nextOf, oneBy, twoBy, childBy, childrenBy, allBy, quantBy, predQuantBy, ascribedBy, typedBy, bodyBy, predBodyBy, extension-plan, multiple-plan, application-plan, halts, onto, enteredBy, exprBy, predBy, paidBy, ownedBy, exprOf, predOf}
 use Rattle.simulation.specs.Still.{test-both, Halted, still-stopped, still-placed, still-gave, still-bound, still-paid, still-enter, still-skip, still-within, still-list, still-make, still-expect, still-leave, still-free, still-identifier, still-meets, still-ascription, still-declare, still-times, still-play}
 

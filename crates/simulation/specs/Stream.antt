@@ -20,7 +20,7 @@ use Rattle.walk.specs.Writer.{Row, W, done, _>>=_, same, given-set, power}
 use Rattle.walk.specs.Walk.{lift, name, notes, meets, spelled}
 use Rattle.walk.specs.Walk as K
 use Rattle.machine.specs.declared.State.{State}
-use Rattle.machine.specs.Forms.{then}
+use Rattle.forms.specs.Forms.{then}
 use Rattle.machine.specs.Machine.{Mach, withSt, cell, placedOf, passedOf, makeOf, expectOf}
 use Rattle.machine.specs.Types.{typeHead, skipBy, skipOf, liftOf, freeOf, noteOf, notedOf, notesBy, notesOf, meetsOf, spelledOf}
 use Rattle.simulation.specs.Relation.{Stands, Entered, Books, Runs}

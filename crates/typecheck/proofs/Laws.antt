@@ -10,10 +10,10 @@ use lib.ListN.{length, take, drop}
 use lib.Seq.{take-all, take-append-seam, length-take-le, length-front}
 use borrow.Author.Tests.{lt-ltb, le-ltb}
 use Rattle.machine.specs.declared.State.{State}
-use Rattle.machine.specs.Forms.{test}
+use Rattle.forms.specs.Forms.{test}
 use Rattle.machine.specs.Machine.{Mach, mach, smaller}
 use Rattle.memory.specs.Memory.{cleared}
-use Rattle.machine.specs.Forms.{then}
+use Rattle.forms.specs.Forms.{then}
 use Rattle.walker.specs.Root.{formulaOf}
 use Rattle.finisher.specs.Finisher.{finishOf}
 use Rattle.runner.specs.Begin.{startOf, enteredOf}

@@ -23,8 +23,8 @@ use Rattle.heads.specs.declared.ExprAt.the-variants as EA
 use Rattle.heads.specs.declared.PredAt.{PredAt}
 use Rattle.heads.specs.declared.PredAt.the-variants as PA
 use Rattle.heads.specs.Heads.{reach, exprHead, predHead, fewAt}
-use Rattle.machine.specs.declared.Plan.{Plan}
-use Rattle.machine.specs.Forms.{test, then}
+use Rattle.operators.specs.declared.Plan.{Plan}
+use Rattle.forms.specs.Forms.{test, then}
 use Rattle.machine.specs.Machine.{Mach, withSt, placedOf, gaveOf, paidOf, leaveOf}
 use Rattle.machine.specs.Types.{timesOf}
 use Rattle.walker.specs.Walk.{halts, exprBy, predBy, paidBy, ownedBy, typedBy, bodyBy, predBodyBy, exprOf, predOf, explicitOf, ownedOf, childBy, childrenBy, nextOf}

@@ -7,7 +7,7 @@ use Rattle.types.specs.declared.Place.{Place}
 use Rattle.heads.specs.declared.Byte.{Byte}
 use Rattle.heads.specs.declared.Byte.the-variants.{Missing, Of}
 use Rattle.heads.specs.Heads.{reach, byteAt, fewAt}
-use Rattle.machine.specs.Forms.{test, then}
+use Rattle.forms.specs.Forms.{test, then}
 use Rattle.machine.specs.Machine.{Mach, withSt, cell, wordOf, placedOf, paidOf, makeOf, expectOf}
 use Rattle.machine.specs.Types.{declareOf, timesOf}
 use Rattle.walker.specs.Walk.{halts, exprOf, predOf}

@@ -17,11 +17,12 @@ use Rattle.heads.specs.declared.PredAt.{PredAt}
 use Rattle.heads.specs.declared.PredAt.the-variants as PA
 use Rattle.heads.specs.Heads.{reach, exprHead, predHead}
 use Rattle.machine.specs.declared.State.{State}
-use Rattle.machine.specs.declared.Plan.{Plan}
-use Rattle.machine.specs.Forms.{test, then}
+use Rattle.operators.specs.declared.Plan.{Plan}
+use Rattle.forms.specs.Forms.{test, then}
 use Rattle.machine.specs.Machine.{Mach, withSt, stoppedOf, placedOf, gaveOf, boundOf, paidOf, enterOf, listOf, makeOf, expectOf, leaveOf}
 use Rattle.machine.specs.Types.{skipOf, freeOf, boundIdentifierOf, meetsOf, ascriptionOf, declareOf, timesOf}
-use Rattle.machine.specs.Scripts.{partsOf, playOf, checkAtomicOf, checkBinaryOf, checkUnaryOf, checkQuantifiedOf, checkRelationalOf, checkAssociativeOf, nothing, empty-set, power, unknown, finite}
+use Rattle.operators.specs.Operators.{checkAtomicOf, checkBinaryOf, checkUnaryOf, checkQuantifiedOf, checkRelationalOf, checkAssociativeOf, nothing, empty-set, power, unknown, finite}
+use Rattle.machine.specs.Scripts.{partsOf, playOf}
 
 -- what cannot happen once the form is tested
 abbrev pub halts : Mach → Mach

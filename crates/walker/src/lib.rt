@@ -7,7 +7,7 @@ use heads::ExprHead;
 use heads::PredAt;
 use heads::PredHead;
 use machine::Parts;
-use machine::Plan;
+use operators::Plan;
 use machine::State;
 use types::Name;
 use types::NodeRef;
@@ -152,7 +152,7 @@ fn body(
         }
         ExprHead::Literal(e) => machine::make(work, size, 0x41, 0, 0, machine::placed(e, st)),
         ExprHead::Atomic(o, e) => {
-            let n = machine::check_atomic(o);
+            let n = operators::check_atomic(o);
             let p = machine::played_with(NodeRef(0), at, NodeRef(0), at, at, st);
             machine::play(work, output, size, n, p, machine::placed(e, st))
         }
@@ -164,15 +164,15 @@ fn body(
             machine::make(work, size, 0x40, 0, 0, a)
         }
         ExprHead::Binary(o, e) => {
-            let n = machine::check_binary(o);
+            let n = operators::check_binary(o);
             two(s, env, work, output, size, left, n, at, machine::placed(e, st))
         }
         ExprHead::Associative(o, n, e) => {
-            let plan = machine::check_associative(o);
+            let plan = operators::check_associative(o);
             all(s, env, work, output, size, left, plan, n, machine::placed(e, st))
         }
         ExprHead::Unary(o, e) => {
-            let n = machine::check_unary(o);
+            let n = operators::check_unary(o);
             one(s, env, work, output, size, left, n, at, machine::placed(e, st))
         }
         ExprHead::Quantified(o, n, e) => quant(s, env, work, output, size, left, o, n, e, st),
@@ -248,23 +248,23 @@ fn two(
 
 // The plans of a set extension, of a multiple predicate and of a predicate's application.
 const EXTENSION: Plan = Plan {
-    first: machine::UNKNOWN,
-    link: machine::NOTHING,
-    last: machine::POWER,
+    first: operators::UNKNOWN,
+    link: operators::NOTHING,
+    last: operators::POWER,
     mode: 1,
 };
 
 const MULTIPLE: Plan = Plan {
-    first: machine::EMPTY_SET,
-    link: machine::NOTHING,
-    last: machine::NOTHING,
+    first: operators::EMPTY_SET,
+    link: operators::NOTHING,
+    last: operators::NOTHING,
     mode: 1,
 };
 
 const APPLICATION: Plan = Plan {
-    first: machine::NOTHING,
-    link: machine::NOTHING,
-    last: machine::NOTHING,
+    first: operators::NOTHING,
+    link: operators::NOTHING,
+    last: operators::NOTHING,
     mode: 0,
 };
 
@@ -344,7 +344,7 @@ fn quant(
 {
     let at = st.at;
     let around = st.bound;
-    let k = machine::check_quantified(o);
+    let k = operators::check_quantified(o);
     let a = machine::declare(s, env, work, output, size, n, machine::placed(e, st));
     let b = pred(s, env, work, output, size, left, a);
     let c = one(s, env, work, output, size, left, k, at, b);
@@ -396,7 +396,7 @@ fn pbody(
         PredHead::Constant(e) => machine::placed(e, st),
         PredHead::Variable(e) => machine::placed(e, st),
         PredHead::Relational(o, e) => {
-            let n = machine::check_relational(o);
+            let n = operators::check_relational(o);
             two(s, env, work, output, size, left, n, at, machine::placed(e, st))
         }
         PredHead::Connective(e) => {
@@ -409,7 +409,7 @@ fn pbody(
         PredHead::Quantification(n, e) => pquant(s, env, work, output, size, left, n, e, st),
         PredHead::Simple(e) => {
             let a = machine::placed(e, st);
-            one(s, env, work, output, size, left, machine::FINITE, at, a)
+            one(s, env, work, output, size, left, operators::FINITE, at, a)
         }
         PredHead::Multiple(n, e) => {
             all(s, env, work, output, size, left, MULTIPLE, n, machine::placed(e, st))

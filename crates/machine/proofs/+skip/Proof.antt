@@ -1,7 +1,7 @@
 use mathlib.Core.Path.{refl, sym, ap, _∙_}
 use native.Mathlib.Omega.{arith}
 use Rattle.types.specs.Code.{headIs}
-use Rattle.machine.specs.Forms.{step, yes-eq, no-eq}
+use Rattle.forms.specs.Forms.{step, yes-eq, no-eq}
 use Rattle.machine.specs.Types.{skipBy}
 use Rattle.machine.proofs.Laws.{by-skip}
 use borrow.Author.Needs.{needs}

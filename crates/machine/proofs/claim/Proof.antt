@@ -1,6 +1,6 @@
 use mathlib.Core.Path.{refl, sym, _∙_}
 use native.Mathlib.Omega.{arith}
-use Rattle.machine.specs.Forms.{step, yes-eq, no-eq}
+use Rattle.forms.specs.Forms.{step, yes-eq, no-eq}
 use Rattle.machine.specs.Types.{annotationBy}
 use Rattle.machine.proofs.Laws.{claim-plain, claim-typed, claim-annotated}
 use borrow.Author.Needs.{needs}

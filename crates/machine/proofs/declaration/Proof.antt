@@ -1,6 +1,6 @@
 use mathlib.Core.Path.{refl, sym, _∙_}
 use native.Mathlib.Omega.{arith}
-use Rattle.machine.specs.Forms.{step}
+use Rattle.forms.specs.Forms.{step}
 use Rattle.machine.specs.Types.{declarationBy, declarationOf}
 use borrow.Author.Needs.{needs}
 use Rattle.machine.proofs.declaration.Statement.{statement}

@@ -5,7 +5,7 @@ use Rattle.machine.specs.Types.{declarationOf, timesOf}
 use Rattle.machine.proofs.Laws.{by-times, times-none}
 use mathlib.Core.Path.{refl, sym, ap, _∙_}
 use native.Mathlib.Omega.{arith}
-use Rattle.machine.specs.Forms.{test, then, step, yes-if, no-if, yes-eq, no-eq, yes-lt, no-lt, yes-le, no-le}
+use Rattle.forms.specs.Forms.{test, then, step, yes-if, no-if, yes-eq, no-eq, yes-lt, no-lt, yes-le, no-le}
 use borrow.Author.Needs.{needs}
 use Rattle.machine.proofs.declare.Statement.{statement}
 use Rattle.machine.proofs.declare.Tie as tie

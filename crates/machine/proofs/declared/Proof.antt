@@ -1,5 +1,5 @@
 use native.Mathlib.Omega.{arith}
-use Rattle.machine.specs.Forms.{step}
+use Rattle.forms.specs.Forms.{step}
 use Rattle.machine.specs.Types.{declarationBy}
 use borrow.Author.Needs.{needs}
 use Rattle.machine.proofs.declared.Statement.{statement}

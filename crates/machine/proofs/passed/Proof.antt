@@ -1,4 +1,4 @@
-use Rattle.machine.specs.Forms.{yes-le, no-le}
+use Rattle.forms.specs.Forms.{yes-le, no-le}
 use Rattle.machine.specs.Machine.{passedOf}
 use borrow.Author.Needs.{needs}
 use Rattle.machine.proofs.passed.Statement.{statement}

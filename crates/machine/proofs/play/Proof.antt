@@ -2,7 +2,7 @@ use Prim.Native.Nat.{ℕ, _-_}
 use native.Mathlib.Omega.{arith}
 use mathlib.Core.Path.{_≡_, refl, sym, _∙_}
 use lib.ListN.{length}
-use Rattle.machine.specs.Forms.{step}
+use Rattle.forms.specs.Forms.{step}
 use Rattle.machine.specs.Machine.{mach}
 use Rattle.machine.specs.Scripts.{itemsOf, playOf}
 use Rattle.machine.proofs.Laws.{items-more, items-none}
@@ -13,9 +13,9 @@ use Rattle.machine.proofs.play.Reads as reads
 use Rattle.machine.proofs.play.Lts as lts
 use Rattle.machine.proofs.chosen.Reads as chosen-reads
 use Rattle.machine.proofs.gave.Reads as gave-reads
-use Rattle.machine.proofs.item_at.Reads as item-at-reads
+use Rattle.operators.proofs.item_at.Reads as item-at-reads
 use Rattle.machine.proofs.perform.Reads as perform-reads
-use Rattle.machine.proofs.script_at.Reads as script-at-reads
+use Rattle.operators.proofs.script_at.Reads as script-at-reads
 use Rattle.machine.proofs.small.Reads as small-reads
 
 abbrev Inv-loop : tie.InvT-loop

@@ -1,7 +1,7 @@
 use denote.Ref.{now}
 use mathlib.Core.Path.{_≡_, refl, sym, ap, _∙_}
 use native.Mathlib.Omega.{arith}
-use Rattle.machine.specs.Forms.{test, then, step, yes-if, no-if, yes-eq, no-eq, yes-lt, no-lt, yes-le, no-le}
+use Rattle.forms.specs.Forms.{test, then, step, yes-if, no-if, yes-eq, no-eq, yes-lt, no-lt, yes-le, no-le}
 use Prim.Native.Nat.{ℕ, _+_}
 use lib.ListN.{getD, set, List·getD-eq-default}
 use lib.Seq.{getD-drop}

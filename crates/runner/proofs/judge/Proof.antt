@@ -1,6 +1,6 @@
 use Rattle.runner.proofs.Laws.{same-judged}
 use mathlib.Core.Path.{_≡_, refl, sym, ap, _∙_}
-use Rattle.machine.specs.Forms.{yes-eq, no-eq, yes-if, no-if, step}
+use Rattle.forms.specs.Forms.{yes-eq, no-eq, yes-if, no-if, step}
 use Rattle.runner.specs.Run.{judgeOf}
 use borrow.Author.Needs.{needs}
 use Rattle.runner.proofs.judge.Statement.{statement}

@@ -3,7 +3,7 @@ use mathlib.Core.Path.{_≡_, refl, sym, ap, _∙_}
 use native.Mathlib.Omega.{arith}
 use borrow.Author.Tests.{lt-ltb, le-ltb, le-leb, lt-leb, eq-eqb, ne-eqb}
 use borrow.Author.Needs.{needs}
-use Rattle.machine.specs.Forms.{yes-eq, no-eq, yes-if, no-if}
+use Rattle.forms.specs.Forms.{yes-eq, no-eq, yes-if, no-if}
 use Rattle.runner.specs.Run.{verdictOf}
 use borrow.Author.Needs.{needs}
 use Rattle.runner.proofs.verdict.Statement.{statement}

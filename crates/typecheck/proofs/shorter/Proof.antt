@@ -1,5 +1,5 @@
 use mathlib.Core.Path.{refl}
-use Rattle.machine.specs.Forms.{yes-lt, no-lt}
+use Rattle.forms.specs.Forms.{yes-lt, no-lt}
 use Rattle.machine.specs.Machine.{smaller}
 use Rattle.typecheck.proofs.shorter.Statement.{statement}
 use Rattle.typecheck.proofs.shorter.Tie as tie

@@ -1,6 +1,6 @@
 use mathlib.Core.Path.{_≡_, refl, sym, _∙_}
 use native.Mathlib.Omega.{arith}
-use Rattle.machine.specs.Forms.{step, yes-eq, no-eq}
+use Rattle.forms.specs.Forms.{step, yes-eq, no-eq}
 use lib.ListN.{length}
 use Rattle.machine.specs.Machine.{mach}
 use Rattle.machine.specs.Types.{timesOf}
@@ -57,12 +57,12 @@ use Rattle.heads.proofs.pred_head.Reads as pred-head-reads
 use Rattle.machine.proofs.ascription.Reads as ascription-reads
 use Rattle.machine.proofs.bound_identifier.Reads as bound-identifier-reads
 use Rattle.machine.proofs.bounded.Reads as bounded-reads
-use Rattle.machine.proofs.check_associative.Reads as check-associative-reads
-use Rattle.machine.proofs.check_atomic.Reads as check-atomic-reads
-use Rattle.machine.proofs.check_binary.Reads as check-binary-reads
-use Rattle.machine.proofs.check_quantified.Reads as check-quantified-reads
-use Rattle.machine.proofs.check_relational.Reads as check-relational-reads
-use Rattle.machine.proofs.check_unary.Reads as check-unary-reads
+use Rattle.operators.proofs.check_associative.Reads as check-associative-reads
+use Rattle.operators.proofs.check_atomic.Reads as check-atomic-reads
+use Rattle.operators.proofs.check_binary.Reads as check-binary-reads
+use Rattle.operators.proofs.check_quantified.Reads as check-quantified-reads
+use Rattle.operators.proofs.check_relational.Reads as check-relational-reads
+use Rattle.operators.proofs.check_unary.Reads as check-unary-reads
 use Rattle.machine.proofs.declare.Reads as declare-reads
 use Rattle.machine.proofs.enter.Reads as enter-reads
 use Rattle.machine.proofs.free_identifier.Reads as free-identifier-reads

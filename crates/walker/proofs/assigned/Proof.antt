@@ -1,7 +1,7 @@
 use mathlib.Core.Path.{refl}
 use native.Mathlib.Omega.{arith}
 use borrow.Author.Needs.{needs}
-use Rattle.machine.specs.Forms.{step, yes-eq, no-eq}
+use Rattle.forms.specs.Forms.{step, yes-eq, no-eq}
 use Rattle.walker.specs.Root.{assignedBy}
 use Rattle.walker.proofs.assigned.Statement.{statement}
 use Rattle.walker.proofs.assigned.Tie as tie

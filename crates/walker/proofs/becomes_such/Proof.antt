@@ -1,7 +1,7 @@
 use native.Mathlib.Omega.{arith}
 use mathlib.Core.Path.{_≡_, refl, sym, _∙_}
 use borrow.Author.Needs.{needs}
-use Rattle.machine.specs.Forms.{step}
+use Rattle.forms.specs.Forms.{step}
 use Rattle.walker.specs.Root.{becomesSuchOf}
 use Rattle.walker.proofs.becomes_such.Statement.{statement}
 use Rattle.walker.proofs.becomes_such.Tie as tie

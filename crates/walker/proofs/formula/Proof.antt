@@ -1,7 +1,7 @@
 use mathlib.Core.Path.{refl}
 use native.Mathlib.Omega.{arith}
 use borrow.Author.Needs.{needs}
-use Rattle.machine.specs.Forms.{step, yes-lt, no-lt}
+use Rattle.forms.specs.Forms.{step, yes-lt, no-lt}
 use Rattle.walker.specs.Root.{formulaOf}
 use Rattle.walker.proofs.Laws.{root-none, root-is, assignment-none, assignment-is}
 use Rattle.walker.proofs.formula.Statement.{statement}

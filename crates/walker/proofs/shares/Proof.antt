@@ -3,7 +3,7 @@ use native.Mathlib.Omega.{arith}
 use mathlib.Core.Path.{_≡_, refl, sym, _∙_}
 use lib.ListN.{length}
 use borrow.Author.Needs.{needs}
-use Rattle.machine.specs.Forms.{step}
+use Rattle.forms.specs.Forms.{step}
 use Rattle.machine.specs.Machine.{mach}
 use Rattle.walker.specs.Root.{shareBy, sharesFrom, sharesOf}
 use Rattle.walker.proofs.Laws.{shares-more, shares-none}

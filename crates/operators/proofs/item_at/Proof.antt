@@ -1,12 +1,12 @@
 use mathlib.Core.Path.{refl}
-use Rattle.machine.specs.Forms.{yes-lt, no-lt}
-use Rattle.machine.specs.Tables.{deedsT, leftsT, rightsT, placesT}
-use Rattle.machine.specs.Scripts.{itemAt}
+use Rattle.forms.specs.Forms.{yes-lt, no-lt}
+use Rattle.operators.specs.Tables.{deedsT, leftsT, rightsT, placesT}
+use Rattle.operators.specs.Operators.{itemAt}
 use borrow.Author.Needs.{needs}
-use Rattle.machine.proofs.item_at.Statement.{statement}
-use Rattle.machine.proofs.item_at.Tie as tie
-use Rattle.machine.proofs.item_at.Reads as reads
-use Rattle.machine.proofs.item_at.Lts as lts
+use Rattle.operators.proofs.item_at.Statement.{statement}
+use Rattle.operators.proofs.item_at.Tie as tie
+use Rattle.operators.proofs.item_at.Reads as reads
+use Rattle.operators.proofs.item_at.Lts as lts
 
 -- src/lib.rt:1071:19
 array-read-t7 : tie.Need-array-read-t7

@@ -1,4 +1,4 @@
-// The scripts as data: see `play` for how they are read. An item does one thing; its four parts stand in four tables, which the compiler fills faster
+// The scripts as data: see `play` of crate `machine` for how they are read. An item does one thing; its four parts stand in four tables, which the compiler fills faster
 // than one table of rows.
 
 // What an item does. 4E, 40, 41, 43, 44: a node of that kind is made; 1: the two operands are compared.

@@ -1,12 +1,12 @@
 use mathlib.Core.Path.{_≡_, refl, sym, ap, _∙_}
 use native.Mathlib.Omega.{arith}
-use Rattle.machine.specs.Forms.{test, then, step, yes-if, no-if, yes-eq, no-eq, yes-lt, no-lt, yes-le, no-le}
-use Rattle.machine.specs.Scripts.{checkUnaryOf}
+use Rattle.forms.specs.Forms.{test, then, step, yes-if, no-if, yes-eq, no-eq, yes-lt, no-lt, yes-le, no-le}
+use Rattle.operators.specs.Operators.{checkUnaryOf}
 use borrow.Author.Needs.{needs}
-use Rattle.machine.proofs.check_unary.Statement.{statement}
-use Rattle.machine.proofs.check_unary.Tie as tie
-use Rattle.machine.proofs.check_unary.Reads as reads
-use Rattle.machine.proofs.check_unary.Lts as lts
+use Rattle.operators.proofs.check_unary.Statement.{statement}
+use Rattle.operators.proofs.check_unary.Tie as tie
+use Rattle.operators.proofs.check_unary.Reads as reads
+use Rattle.operators.proofs.check_unary.Lts as lts
 
 -- src/lib.rt:952:1
 returns : tie.Need-returns

@@ -1,12 +1,12 @@
 use mathlib.Core.Path.{refl}
-use Rattle.machine.specs.Forms.{yes-lt, no-lt}
-use Rattle.machine.specs.Tables.{startsT, givesT}
-use Rattle.machine.specs.Scripts.{scriptAt}
+use Rattle.forms.specs.Forms.{yes-lt, no-lt}
+use Rattle.operators.specs.Tables.{startsT, givesT}
+use Rattle.operators.specs.Operators.{scriptAt}
 use borrow.Author.Needs.{needs}
-use Rattle.machine.proofs.script_at.Statement.{statement}
-use Rattle.machine.proofs.script_at.Tie as tie
-use Rattle.machine.proofs.script_at.Reads as reads
-use Rattle.machine.proofs.script_at.Lts as lts
+use Rattle.operators.proofs.script_at.Statement.{statement}
+use Rattle.operators.proofs.script_at.Tie as tie
+use Rattle.operators.proofs.script_at.Reads as reads
+use Rattle.operators.proofs.script_at.Lts as lts
 
 -- src/lib.rt:1046:19
 array-read-t7 : tie.Need-array-read-t7
