@@ -3,7 +3,6 @@ use Prim.Native.Nat.{ℕ, zero, suc, _+_, _-_, _*_}
 use mathlib.Core.List.{List}
 use lib.Dec.{eqb, ltb}
 use Rattle.types.specs.Limits.{max-depth, levels}
-use Rattle.types.specs.declared.Place.{Place}
 use Rattle.heads.specs.declared.Byte.{Byte}
 use Rattle.heads.specs.declared.Byte.the-variants.{Missing, Of}
 use Rattle.heads.specs.Heads.{reach, byteAt, fewAt}

@@ -1,6 +1,6 @@
 -- What the walk over a formula's bytes does to the machine, record by record, in the code's order. A record is known by its head, the same that
 -- the test of form reads; E and P walk the expressions and predicates below it. Every function takes any bytes; a stopped machine passes through.
-use Prim.Native.Nat.{ℕ, zero, suc, _+_, _-_, _*_}
+use Prim.Native.Nat.{ℕ, zero, suc}
 use mathlib.Core.Bool.{false}
 use mathlib.Core.List.{List}
 use lib.Dec.{eqb}
