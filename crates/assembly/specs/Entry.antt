@@ -18,6 +18,7 @@ use Rattle.formula.specs.declared.Form.{Form}
 use Rattle.formula.specs.declared.Form.the-variants.{Good, TooLong, Bad}
 use Rattle.formula.specs.Environment.{Entry, lacks, holds, first, Env, Entries, lookup}
 use Rattle.formula.specs.EnvParse.{capped, environmentOf, Table}
+use Rattle.formula.specs.EnvSteps.{capped-most}
 use Rattle.heads.specs.Heads.{pick}
 use Rattle.types.specs.Limits.{max-names}
 use Rattle.formula.specs.Parse.{Parsed, parsed, too-long, faulty, parseOf, formOf}
@@ -98,7 +99,7 @@ module _ (s env types : List ℕ) (names cap budget : ℕ) (out work : List ℕ)
 
   pub run-says : Says (length out) (answered budget (length out) (concluded cap (lookup es) f budget)) (judgeOf budget (finishOf (formulaOf s env start)))
   run-says =
-      let fresh = begun-fresh es env types cap budget lent out lent-long (capped names) (bytes-at env be) table in
+      let fresh = begun-fresh es env types cap budget lent out lent-long (capped names) (capped-most names) (bytes-at env be) table in
       let l = fresh .sized in
       let w = walk-ends (lookup es) env cap (length out) (ok .capacity-small) (let q = ok .environment-short in omega arith) s (let q = ok .formula-short in omega arith) names (ok .names-few) f start fresh (spelled .fits) (spelled .placed) (spelled .bytes) in
       let b = begun-budget es env types cap budget lent out lent-long in

@@ -15,6 +15,7 @@ use Rattle.formula.specs.Environment.{Entry, lacks, holds, Env, Entries, lookup
 use Rattle.formula.specs.EnvParse.{Cell, Table}
 use Rattle.types.specs.Limits.{max-names, max-depth}
 use Rattle.simulation.specs.Relation.{Entered}
+use Rattle.simulation.specs.Decls.{below-up}
 use Rattle.simulation.specs.Whole.{Fresh}
 use Rattle.machine.specs.declared.State.{State}
 use Rattle.machine.specs.Machine.{Mach, mach, cell, putOf}
@@ -102,14 +103,16 @@ module _ (es : Entries) (env types : List ℕ) (cap budget : ℕ) (work out : Li
   book-cell x l = entered-at types 0 256 (mach (cap * 3) (startOf budget) (cleared (cap * 3) work) out) (let e = ap length (cleared-book cap work sized) ∙ length-replicate {A = ℕ} 4096 0 in omega arith) x (omega arith) (omega arith)
 
   -- a cell of the environment's table, as the walk reads it
-  entered-cell : (count x : ℕ) → Bytes env → (e : Entry) → Cell count env e (getD types x 0) → getD (begun .book) (cell 3392 1 x 0) 0 ≡ getD types x 0 → Entered (lookup es) env cap (length out) (begun .book) x e
+  entered-cell : (count x : ℕ) → count ≤ max-names → Bytes env → (e : Entry) → Cell count env e (getD types x 0) → getD (begun .book) (cell 3392 1 x 0) 0 ≡ getD types x 0 → Entered (lookup es) env cap (length out) (begun .book) x e
   unfolding Cell
-  entered-cell count x b lacks c g = g ∙ c
-  entered-cell count x b (holds t) c g = let s = read-stands max-depth count env b (c .0) t (c .1) (c .3) in (c .0, drop (c .1) env, g ∙ c .2, s .bytes, (let q = s .shallow in omega arith))
+  entered-cell count x few b lacks c g = g ∙ c
+  entered-cell count x few b (holds t) c g =
+      let s = read-stands max-depth count env b (c .0) t (c .1) (c .3) in
+      (c .0, drop (c .1) env, g ∙ c .2, s .bytes, (let q = s .shallow in omega arith), below-up count max-names t few (s .below))
 
-  pub begun-fresh : (count : ℕ) → Bytes env → Table count env es types → Fresh (lookup es) env cap (length out) begun
+  pub begun-fresh : (count : ℕ) → count ≤ max-names → Bytes env → Table count env es types → Fresh (lookup es) env cap (length out) begun
   unfolding startOf
-  begun-fresh count b h =
+  begun-fresh count few b h =
       let l : length (take (cap * 3) work) ≡ cap * 3 = length-take-le (cap * 3) work (omega arith) in
       record {
         going = ap (λ (v : State). v .stop) begun-state;
@@ -124,7 +127,7 @@ module _ (es : Entries) (env types : List ℕ) (cap budget : ℕ) (work out : Li
         output = ap length (entered-out types 0 256 (mach (cap * 3) (startOf budget) (cleared (cap * 3) work) out));
         long = book-long;
         unmet = λ x q. book-zero (cell 2816 2 x 0) (omega arith);
-        entries = λ x q. entered-cell count x b (lookup es x) (h .tells x q) (book-cell x q);
+        entries = λ x q. entered-cell count x few b (lookup es x) (h .tells x q) (book-cell x q);
       }
 
   pub begun-budget : begun .st .budget ≡ budget

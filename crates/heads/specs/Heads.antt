@@ -133,6 +133,12 @@ declBody k p = pick (eqb k 0x10) (D.Is (Plain p)) (pick (eqb k 0x11) (D.Is (Type
 unfoldable pub declHead : List ℕ → Place → DeclAt
 declHead s p = onByte D.Wrong (byteAt s p) declBody
 
+-- the place after a declaration's head
+unfoldable pub declEnd : DeclHead → Place
+declEnd (Plain e) = e
+declEnd (Typed e) = e
+declEnd (Annotated e) = e
+
 -- a target: a record 01 and nothing else
 unfoldable pub targetAt : ℕ → List ℕ → Place → Word
 targetAt names s p = onByte W.Missing (byteAt s p) λ k q. pick (eqb k 0x01) (nameAt names s q) W.Missing

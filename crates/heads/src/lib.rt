@@ -4,7 +4,7 @@
 ghost use mathlib.Core.Path.{_≡_};
 ghost use Prim.Native.Nat.{ℕ, _+_, _*_, _-_, _<_, _≤_};
 ghost use lib.ListN.{length, getD};
-ghost use Rattle.heads.specs.Heads.{reach, byteAt, wordAt, nameAt, opAt, countAt, fewAt, exprBody, exprHead, predBody, predHead, predEnd, declBody, declHead, targetAt};
+ghost use Rattle.heads.specs.Heads.{reach, byteAt, wordAt, nameAt, opAt, countAt, fewAt, exprBody, exprHead, predBody, predHead, predEnd, declBody, declHead, declEnd, targetAt};
 use types::Name;
 use types::Place;
 
@@ -315,6 +315,17 @@ pub fn decl_head(s: &[u8], at: Place) -> DeclAt
     match byte_at(s, at) {
         Byte::Missing => DeclAt::Wrong,
         Byte::Of(k, p) => decl_body(k, p),
+    }
+}
+
+// The place after a declaration's head.
+pub fn decl_end(h: DeclHead) -> Place
+    ensures { λ r. ⌜ r ≡ declEnd h ⌝ }
+{
+    match h {
+        DeclHead::Plain(e) => e,
+        DeclHead::Typed(e) => e,
+        DeclHead::Annotated(e) => e,
     }
 }
 

@@ -4,7 +4,7 @@ use Prim.Native.Nat.{ℕ, zero, suc, _+_, _-_, _*_, _/_, _%_}
 use mathlib.Core.Bool.{Bool, true, false}
 use mathlib.Core.List.{List}
 use lib.ListN.{length, getD, take, drop, set}
-use lib.Dec.{eqb, ltb}
+use lib.Dec.{eqb, ltb, leb}
 use Rattle.types.specs.Limits.{max-slots, max-names, max-opened}
 use Rattle.meter.specs.Meter.{Out, spent, halt, done, Why, broken, full}
 use Rattle.unification.specs.Arena as A
@@ -33,13 +33,6 @@ withSt v m = record { st = v; arena = m .arena; book = m .book; out = m .out }
 abbrev pub withArena : List ℕ → Mach → Mach
 withArena ws m = record { st = m .st; arena = ws; book = m .book; out = m .out }
 
--- ---- bytes: 0 past the end
-abbrev pub byteAt : List ℕ → ℕ → ℕ → ℕ
-byteAt s at k = getD s (at + k) 0
-
-unfoldable pub wordAt : List ℕ → ℕ → ℕ → ℕ
-wordAt s at k = getD s (at + k) 0 + getD s (at + k + 1) 0 * 256
-
 unfoldable pub smaller : ℕ → ℕ → ℕ
 smaller a b = test (ltb a b) (λ _. a) (λ _. b)
 
@@ -48,13 +41,13 @@ smaller a b = test (ltb a b) (λ _. a) (λ _. b)
 unfoldable pub stoppedOf : ℕ → State → State
 stoppedOf n v = test (eqb (v .stop) 0) (λ _. record { at = v .at; from = v .from; last = v .last; nodes = v .nodes; budget = v .budget; slots = v .slots; met = v .met; bound = v .bound; bytes = v .bytes; over = v .over; stop = n }) (λ _. v)
 
--- n bytes further
-unfoldable pub movedOf : ℕ → State → State
-movedOf n v = test (eqb (v .stop) 0) (λ _. test (ltb (v .at .0) 65536) (λ _. record { at = record { 0 = v .at .0 + n }; from = v .from; last = v .last; nodes = v .nodes; budget = v .budget; slots = v .slots; met = v .met; bound = v .bound; bytes = v .bytes; over = v .over; stop = v .stop }) (λ _. stoppedOf 2 v)) (λ _. v)
-
 -- at a place
 unfoldable pub placedOf : ℕ → State → State
 placedOf p v = test (eqb (v .stop) 0) (λ _. record { at = record { 0 = p }; from = v .from; last = v .last; nodes = v .nodes; budget = v .budget; slots = v .slots; met = v .met; bound = v .bound; bytes = v .bytes; over = v .over; stop = v .stop }) (λ _. v)
+
+-- at the offset after a type's head; the streams that are walked have none past 65,536
+unfoldable pub passedOf : ℕ → State → State
+passedOf e v = test (leb e 65536) (λ _. placedOf e v) (λ _. stoppedOf 2 v)
 
 -- the last reference
 unfoldable pub gaveOf : ℕ → State → State

@@ -1,44 +1,54 @@
--- Types in the stream, names, notes and declarations, as the machine meets them. A type is read level by level: `left` levels are allowed.
+-- Types in the stream, names, notes and declarations, as the machine meets them. A record is known by its head, the same that the test of form
+-- reads. A type is read level by level: `left` levels are allowed.
 use Prim.Native.Nat.{ℕ, zero, suc, _+_, _-_, _*_}
-use mathlib.Core.Bool.{Bool, true, false}
 use mathlib.Core.List.{List}
+use lib.ListN.{drop}
 use lib.Dec.{eqb, ltb}
-use Rattle.types.specs.Limits.{levels}
+use Rattle.types.specs.Limits.{levels, max-names}
+use Rattle.types.specs.Ty.{Atom, bool, int, given}
+use Rattle.types.specs.Record.{Head, atomic, power, product, wrong, headOf}
+use Rattle.heads.specs.declared.Byte.{Byte}
+use Rattle.heads.specs.declared.Byte.the-variants.{Missing, Of}
+use Rattle.heads.specs.declared.DeclHead.{DeclHead}
+use Rattle.heads.specs.declared.DeclHead.the-variants.{Plain, Typed, Annotated}
+use Rattle.heads.specs.declared.DeclAt.{DeclAt}
+use Rattle.heads.specs.declared.DeclAt.the-variants.{Wrong, Is}
+use Rattle.heads.specs.Heads.{reach, byteAt, declHead, declEnd}
 use Rattle.machine.specs.declared.State.{State}
 use Rattle.machine.specs.Forms.{test, then}
-use Rattle.machine.specs.Machine.{Mach, withSt, byteAt, wordAt, cell, wordOf, stoppedOf, movedOf, placedOf, gaveOf, enterOf, listOf, makeOf, expectOf, leaveOf, rememberOf, enrolOf, pushBoundOf}
+use Rattle.machine.specs.Machine.{Mach, withSt, cell, wordOf, stoppedOf, placedOf, passedOf, gaveOf, enterOf, listOf, makeOf, expectOf, leaveOf, rememberOf, enrolOf, pushBoundOf}
+
+-- the head of the type record at a place
+abbrev pub typeHead : List ℕ → ℕ → Head
+typeHead s p = headOf max-names p (drop p s)
 
 -- past a type record, where f goes past a part
-unfoldable pub skipBy : (State → State) → List ℕ → State → State
-skipBy f s v =
-    then (byteAt s (v .at .0) 0) λ k.
-    test (eqb k 0x40) (λ _. movedOf 1 v)
-    (λ _. test (eqb k 0x41) (λ _. movedOf 1 v)
-    (λ _. test (eqb k 0x42) (λ _. movedOf 3 v)
-    (λ _. test (eqb k 0x43) (λ _. then (movedOf 1 v) λ a. f a)
-    (λ _. test (eqb k 0x44) (λ _. then (movedOf 1 v) λ a. then (f a) λ b. f b)
-    (λ _. stoppedOf 2 v)))))
+unfoldable pub skipBy : (State → State) → Head → State → State
+skipBy f (atomic a e) v = passedOf e v
+skipBy f (power e) v = then (passedOf e v) λ x. f x
+skipBy f (product e) v = then (passedOf e v) λ x. then (f x) λ y. f y
+skipBy f wrong v = stoppedOf 2 v
 
 unfoldable pub skipOf : ℕ → List ℕ → State → State
 skipOf zero s v = test (eqb (v .stop) 0) (λ _. stoppedOf 2 v) (λ _. v)
-skipOf (suc l) s v = test (eqb (v .stop) 0) (λ _. skipBy (λ x. skipOf l s x) s v) (λ _. v)
+skipOf (suc l) s v = test (eqb (v .stop) 0) (λ _. then (typeHead s (v .at .0)) λ h. skipBy (λ x. skipOf l s x) h v) (λ _. v)
+
+-- a type without parts, as a node
+unfoldable pub atomOf : Atom → Mach → Mach
+atomOf bool m = makeOf 0x40 0 0 m
+atomOf int m = makeOf 0x41 0 0 m
+atomOf (given x) m = makeOf 0x42 x 0 m
 
 -- a type record as nodes
-unfoldable pub liftBy : (Mach → Mach) → List ℕ → Mach → Mach
-liftBy f s m =
-    then (byteAt s (m .st .at .0) 0) λ k.
-    test (eqb k 0x40) (λ _. then (movedOf 1 (m .st)) λ v. makeOf 0x40 0 0 (withSt v m))
-    (λ _. test (eqb k 0x41) (λ _. then (movedOf 1 (m .st)) λ v. makeOf 0x41 0 0 (withSt v m))
-    (λ _. test (eqb k 0x42) (λ _. then (wordAt s (m .st .at .0) 1) λ x. then (movedOf 3 (m .st)) λ v. makeOf 0x42 x 0 (withSt v m))
-    (λ _. test (eqb k 0x43)
-    (λ _. then (movedOf 1 (m .st)) λ v. then (f (withSt v m)) λ a. makeOf 0x43 (a .st .last .0) 0 a)
-    (λ _. test (eqb k 0x44)
-    (λ _. then (movedOf 1 (m .st)) λ v. then (f (withSt v m)) λ a. then (f a) λ b. makeOf 0x44 (a .st .last .0) (b .st .last .0) b)
-    (λ _. then (stoppedOf 2 (m .st)) λ v. withSt v m)))))
+unfoldable pub liftBy : (Mach → Mach) → Head → Mach → Mach
+liftBy f (atomic a e) m = then (passedOf e (m .st)) λ v. atomOf a (withSt v m)
+liftBy f (power e) m = then (passedOf e (m .st)) λ v. then (f (withSt v m)) λ a. makeOf 0x43 (a .st .last .0) 0 a
+liftBy f (product e) m = then (passedOf e (m .st)) λ v. then (f (withSt v m)) λ a. then (f a) λ b. makeOf 0x44 (a .st .last .0) (b .st .last .0) b
+liftBy f wrong m = then (stoppedOf 2 (m .st)) λ v. withSt v m
 
 unfoldable pub liftOf : ℕ → List ℕ → Mach → Mach
 liftOf zero s m = test (eqb (m .st .stop) 0) (λ _. then (stoppedOf 2 (m .st)) λ v. withSt v m) (λ _. m)
-liftOf (suc l) s m = test (eqb (m .st .stop) 0) (λ _. liftBy (λ x. liftOf l s x) s m) (λ _. m)
+liftOf (suc l) s m = test (eqb (m .st .stop) 0) (λ _. then (typeHead s (m .st .at .0)) λ h. liftBy (λ x. liftOf l s x) h m) (λ _. m)
 
 -- a free name: the reference it has, or an unknown of its own, or its environment type
 unfoldable pub freeOf : List ℕ → ℕ → ℕ → Mach → Mach
@@ -78,19 +88,20 @@ noteOf env x p m =
     (λ _. m))
     (λ _. m)
 
-unfoldable pub notesBy : (Mach → Mach) → List ℕ → List ℕ → ℕ → Mach → Mach
-notesBy f s env p m =
-    then (byteAt s (m .st .at .0) 0) λ k.
-    test (eqb k 0x40) (λ _. then (movedOf 1 (m .st)) λ v. withSt v m)
-    (λ _. test (eqb k 0x41) (λ _. then (movedOf 1 (m .st)) λ v. withSt v m)
-    (λ _. test (eqb k 0x42) (λ _. then (wordAt s (m .st .at .0) 1) λ x. then (movedOf 3 (m .st)) λ v. noteOf env x p (withSt v m))
-    (λ _. test (eqb k 0x43) (λ _. then (movedOf 1 (m .st)) λ v. f (withSt v m))
-    (λ _. test (eqb k 0x44) (λ _. then (movedOf 1 (m .st)) λ v. then (f (withSt v m)) λ a. f a)
-    (λ _. then (stoppedOf 2 (m .st)) λ v. withSt v m)))))
+unfoldable pub notedOf : List ℕ → ℕ → Atom → Mach → Mach
+notedOf env p bool m = m
+notedOf env p int m = m
+notedOf env p (given x) m = noteOf env x p m
+
+unfoldable pub notesBy : (Mach → Mach) → List ℕ → ℕ → Head → Mach → Mach
+notesBy f env p (atomic a e) m = then (passedOf e (m .st)) λ v. notedOf env p a (withSt v m)
+notesBy f env p (power e) m = then (passedOf e (m .st)) λ v. f (withSt v m)
+notesBy f env p (product e) m = then (passedOf e (m .st)) λ v. then (f (withSt v m)) λ a. f a
+notesBy f env p wrong m = then (stoppedOf 2 (m .st)) λ v. withSt v m
 
 unfoldable pub notesOf : ℕ → List ℕ → List ℕ → ℕ → Mach → Mach
 notesOf zero s env p m = test (eqb (m .st .stop) 0) (λ _. then (stoppedOf 2 (m .st)) λ v. withSt v m) (λ _. m)
-notesOf (suc l) s env p m = test (eqb (m .st .stop) 0) (λ _. notesBy (λ x. notesOf l s env p x) s env p m) (λ _. m)
+notesOf (suc l) s env p m = test (eqb (m .st .stop) 0) (λ _. then (typeHead s (m .st .at .0)) λ h. notesBy (λ x. notesOf l s env p x) env p h m) (λ _. m)
 
 -- a type record against a reference
 unfoldable pub meetsOf : List ℕ → ℕ → ℕ → Mach → Mach
@@ -103,31 +114,43 @@ spelledOf s env x q p m =
     then (placedOf (m .st .at .0) (a .st)) λ v.
     meetsOf s x p (withSt v a)
 
-unfoldable pub ascriptionOf : List ℕ → List ℕ → ℕ → ℕ → Mach → Mach
-ascriptionOf s env x p m =
-    then (byteAt s (m .st .at .0) 0) λ k.
+-- an ascription by its first byte: 4F stands for what is no type, and is listed
+unfoldable pub ascriptionBy : List ℕ → List ℕ → ℕ → ℕ → Byte → Mach → Mach
+ascriptionBy s env x p Missing m = then (stoppedOf 2 (m .st)) λ v. withSt v m
+ascriptionBy s env x p (Of k e) m =
     test (eqb k 0x4F)
-    (λ _. then (listOf 0 (m .st .at .0) 0xFFFF m) λ a. then (movedOf 1 (a .st)) λ v. withSt v a)
+    (λ _. then (listOf 0 (m .st .at .0) 0xFFFF m) λ a. then (placedOf (e .0) (a .st)) λ v. withSt v a)
     (λ _. spelledOf s env x (m .st .at .0) p m)
 
--- what a declaration's kind says of its reference
-unfoldable pub claimOf : List ℕ → List ℕ → ℕ → ℕ → ℕ → Mach → Mach
-claimOf s env kind x p m =
-    test (eqb kind 0x10) (λ _. m)
-    (λ _. test (eqb kind 0x11) (λ _. meetsOf s x p m)
-    (λ _. then (byteAt s (m .st .at .0) 0) λ k.
-    test (eqb k 0x4F) (λ _. then (movedOf 1 (m .st)) λ v. withSt v m)
-    (λ _. spelledOf s env x p p m)))
+unfoldable pub ascriptionOf : List ℕ → List ℕ → ℕ → ℕ → Mach → Mach
+ascriptionOf s env x p m = then (byteAt (reach s) (m .st .at)) λ b. ascriptionBy s env x p b m
 
-unfoldable pub declarationOf : List ℕ → List ℕ → Mach → Mach
-declarationOf s env m =
-    then (byteAt s (m .st .at .0) 0) λ kind.
+-- an annotation by its first byte: 4F says nothing
+unfoldable pub annotationBy : List ℕ → List ℕ → ℕ → ℕ → Byte → Mach → Mach
+annotationBy s env x p Missing m = then (stoppedOf 2 (m .st)) λ v. withSt v m
+annotationBy s env x p (Of k e) m =
+    test (eqb k 0x4F) (λ _. then (placedOf (e .0) (m .st)) λ v. withSt v m)
+    (λ _. spelledOf s env x p p m)
+
+-- what a declaration's head says of its reference
+unfoldable pub claimOf : List ℕ → List ℕ → DeclHead → ℕ → ℕ → Mach → Mach
+claimOf s env (Plain e) x p m = m
+claimOf s env (Typed e) x p m = meetsOf s x p m
+claimOf s env (Annotated e) x p m = then (byteAt (reach s) (m .st .at)) λ b. annotationBy s env x p b m
+
+unfoldable pub declarationBy : List ℕ → List ℕ → DeclAt → Mach → Mach
+declarationBy s env Wrong m = then (stoppedOf 2 (m .st)) λ v. withSt v m
+declarationBy s env (Is h) m =
     then (enterOf (m .st)) λ e.
-    then (movedOf 1 e) λ v.
+    then (declEnd h) λ q.
+    then (placedOf (q .0) e) λ v.
     then (makeOf 0x4E 0 0 (withSt v m)) λ b.
     then (leaveOf (m .st .slots) (m .st .at .0) b) λ c.
     then (pushBoundOf c) λ d.
-    claimOf s env kind (b .st .last .0) (m .st .at .0) d
+    claimOf s env h (b .st .last .0) (m .st .at .0) d
+
+unfoldable pub declarationOf : List ℕ → List ℕ → Mach → Mach
+declarationOf s env m = then (declHead (reach s) (m .st .at)) λ h. declarationBy s env h m
 
 -- a step taken n times
 unfoldable pub timesOf : (Mach → Mach) → ℕ → Mach → Mach

@@ -2,6 +2,11 @@
 // work slice, the book stands behind it, and problems go straight into the output. A stopped state passes through every step unchanged.
 mod tables;
 
+use heads::Byte;
+use heads::DeclAt;
+use heads::DeclHead;
+use types::Atom;
+use types::Head;
 use types::Name;
 use types::NodeRef;
 use types::Place;
@@ -12,12 +17,14 @@ ghost use mathlib.Core.Path.{_≡_};
 ghost use Prim.Native.Nat.{ℕ, _+_, _*_, _-_, _<_, _≤_};
 ghost use mathlib.Core.List.{List};
 ghost use lib.ListN.{length, getD, take, drop, set};
+ghost use Rattle.types.specs.Code.{atomIs};
+ghost use Rattle.heads.specs.declared.DeclAt.the-variants.{Is};
 ghost use Rattle.unification.specs.Arena.{decode, unify, solved};
 ghost use Rattle.unification.specs.Make.{build};
 ghost use Rattle.unifier.specs.Answers.{made, settled, told};
 ghost use Rattle.machine.specs.declared.State as S;
-ghost use Rattle.machine.specs.Machine.{Mach, mach, whole, cell, byteAt, wordAt, smaller, stoppedOf, movedOf, placedOf, gaveOf, boundOf, paidOf, enterOf, grownOf, leftOf, arrivedOf, metOf, bytesOf, overOf, putOf, wordOf, emitOf, twoOf, fourOf, listOf, makeOf, expectOf, leaveOf, rememberOf, enrolOf, pushBoundOf};
-ghost use Rattle.machine.specs.Types.{skipOf, liftOf, freeOf, boundIdentifierOf, noteOf, notesOf, meetsOf, spelledOf, ascriptionOf, claimOf, declarationOf, declareOf};
+ghost use Rattle.machine.specs.Machine.{Mach, mach, whole, cell, smaller, stoppedOf, placedOf, passedOf, gaveOf, boundOf, paidOf, enterOf, grownOf, leftOf, arrivedOf, metOf, bytesOf, overOf, putOf, wordOf, emitOf, twoOf, fourOf, listOf, makeOf, expectOf, leaveOf, rememberOf, enrolOf, pushBoundOf};
+ghost use Rattle.machine.specs.Types.{skipOf, atomOf, liftOf, freeOf, boundIdentifierOf, noteOf, notedOf, notesOf, meetsOf, spelledOf, ascriptionOf, claimOf, declarationBy, declarationOf, declareOf};
 ghost use Rattle.machine.specs.Scripts.{checkAtomicOf, checkBinaryOf, checkUnaryOf, checkQuantifiedOf, checkRelationalOf, checkAssociativeOf, scriptAt, itemAt, chosenOf, placeOf, itemOf, playOf, partsOf};
 
 // ---- the state
@@ -60,39 +67,6 @@ pub const ENTRIES: u32 = 3392;
 // what stands for a name where a problem has none
 pub const NO_NAME: u32 = 0xFFFF;
 
-// ---- bytes of the formula
-
-fn wide(b: u8) -> u32
-    ensures { λ r. ⌜ r ≡ b ⌝ }
-{
-    b as u32
-}
-
-// The byte at an index, and 0 past the end.
-fn get(s: &[u8], i: usize) -> u8
-    ensures { λ r. ⌜ r ≡ getD (now (s .entry)) i 0 ⌝ }
-{
-    if i < s.len() { s[i] } else { 0 }
-}
-
-// The byte k places after a place.
-pub fn byte(s: &[u8], at: Place, k: u8) -> u8
-    ensures { λ r. ⌜ r ≡ byteAt (now (s .entry)) (at .0) k ⌝ }
-{
-    let i = at.0 as usize + k as usize;
-    get(s, i)
-}
-
-// The two bytes from k places after a place on, the lower first.
-pub fn word(s: &[u8], at: Place, k: u8) -> u32
-    ensures { λ r. ⌜ r ≡ wordAt (now (s .entry)) (at .0) k ⌝ }
-{
-    let i = at.0 as usize + k as usize;
-    let lo = wide(get(s, i));
-    let hi = wide(get(s, i + 1));
-    lo + hi * 256
-}
-
 // ---- steps on the state alone
 
 // The walk stops with a number, unless it has stopped.
@@ -107,20 +81,12 @@ pub fn stopped(n: u8, st: State) -> State
     v
 }
 
-// The walk stands n bytes further.
-pub fn moved(n: u8, st: State) -> State
-    ensures { λ r. ⌜ r ≡ movedOf n st ⌝ }
+// The walk stands at the offset after a type's head. The streams that are walked have none past 65,536.
+fn passed(e: usize, st: State) -> State
+    ensures { λ r. ⌜ r ≡ passedOf e st ⌝ }
 {
-    if st.stop != 0 {
-        return st;
-    }
-    let at = st.at;
-    let here = at.0;
-    if here < 65536 {
-        let mut v = st;
-        let next = Place(here + n as u32);
-        v.at = next;
-        return v;
+    if e <= 65536 {
+        return placed(Place(e as u32), st);
     }
     stopped(2, st)
 }
@@ -499,24 +465,26 @@ pub fn skip(s: &[u8], left: u32, st: State) -> State
     if left == 0 {
         return stopped(2, st);
     }
-    let k = byte(s, st.at, 0);
-    if k == 0x40 {
-        return moved(1, st);
+    match types::head_at(s, types::MAX_NAMES, st.at.0 as usize) {
+        Head::Wrong => stopped(2, st),
+        Head::Atomic(_, e) => passed(e, st),
+        Head::Power(e) => skip(s, left - 1, passed(e, st)),
+        Head::Product(e) => {
+            let a = skip(s, left - 1, passed(e, st));
+            skip(s, left - 1, a)
+        }
     }
-    if k == 0x41 {
-        return moved(1, st);
+}
+
+// A type without parts, as a node.
+fn atom(work: &mut [u32], size: u32, a: Atom, st: State) -> State
+    ensures { λ r. ⌜ ((out : List ℕ) → mach size r (now (work .exit)) out ≡ atomOf (atomIs a) (mach size st (now (work .entry)) out)) ⌝ }
+{
+    match a {
+        Atom::Bool => make(work, size, 0x40, 0, 0, st),
+        Atom::Integer => make(work, size, 0x41, 0, 0, st),
+        Atom::Given(x) => make(work, size, 0x42, x.0, 0, st),
     }
-    if k == 0x42 {
-        return moved(3, st);
-    }
-    if k == 0x43 {
-        return skip(s, left - 1, moved(1, st));
-    }
-    if k == 0x44 {
-        let a = skip(s, left - 1, moved(1, st));
-        return skip(s, left - 1, a);
-    }
-    stopped(2, st)
 }
 
 // The type record where the walk stands, as nodes: parts first, left first.
@@ -529,30 +497,22 @@ pub fn lift(s: &[u8], work: &mut [u32], size: u32, left: u32, st: State) -> Stat
     if left == 0 {
         return stopped(2, st);
     }
-    let k = byte(s, st.at, 0);
-    if k == 0x40 {
-        return make(work, size, 0x40, 0, 0, moved(1, st));
+    match types::head_at(s, types::MAX_NAMES, st.at.0 as usize) {
+        Head::Wrong => stopped(2, st),
+        Head::Atomic(a, e) => atom(work, size, a, passed(e, st)),
+        Head::Power(e) => {
+            let a = lift(s, work, size, left - 1, passed(e, st));
+            let x = a.last;
+            make(work, size, 0x43, x.0, 0, a)
+        }
+        Head::Product(e) => {
+            let a = lift(s, work, size, left - 1, passed(e, st));
+            let x = a.last;
+            let b = lift(s, work, size, left - 1, a);
+            let y = b.last;
+            make(work, size, 0x44, x.0, y.0, b)
+        }
     }
-    if k == 0x41 {
-        return make(work, size, 0x41, 0, 0, moved(1, st));
-    }
-    if k == 0x42 {
-        let name = word(s, st.at, 1);
-        return make(work, size, 0x42, name, 0, moved(3, st));
-    }
-    if k == 0x43 {
-        let a = lift(s, work, size, left - 1, moved(1, st));
-        let x = a.last;
-        return make(work, size, 0x43, x.0, 0, a);
-    }
-    if k == 0x44 {
-        let a = lift(s, work, size, left - 1, moved(1, st));
-        let x = a.last;
-        let b = lift(s, work, size, left - 1, a);
-        let y = b.last;
-        return make(work, size, 0x44, x.0, y.0, b);
-    }
-    stopped(2, st)
 }
 
 // A free name: its environment type, lifted once; otherwise one unknown for all its occurrences.
@@ -638,6 +598,25 @@ fn note(
     expect(work, output, size, t, p, place, c)
 }
 
+// The name of a given set is noted at a place; the other types without parts have none.
+fn noted(
+    environment: &[u8],
+    work: &mut [u32],
+    output: &mut [u8],
+    size: u32,
+    a: Atom,
+    place: Place,
+    st: State,
+) -> State
+    ensures { λ r. ⌜ mach size r (now (work .exit)) (now (output .exit)) ≡ notedOf (now (environment .entry)) (place .0) (atomIs a) (mach size st (now (work .entry)) (now (output .entry))) ⌝ }
+{
+    match a {
+        Atom::Bool => st,
+        Atom::Integer => st,
+        Atom::Given(x) => note(environment, work, output, size, x, place, st),
+    }
+}
+
 // The given names of the type record where the walk stands are noted, left to right, at a place.
 fn note_spelled_givens(
     s: &[u8],
@@ -657,43 +636,19 @@ fn note_spelled_givens(
     if left == 0 {
         return stopped(2, st);
     }
-    let k = byte(s, st.at, 0);
-    if k == 0x40 {
-        return moved(1, st);
+    match types::head_at(s, types::MAX_NAMES, st.at.0 as usize) {
+        Head::Wrong => stopped(2, st),
+        Head::Atomic(a, e) => noted(environment, work, output, size, a, place, passed(e, st)),
+        Head::Power(e) => {
+            let a = passed(e, st);
+            note_spelled_givens(s, environment, work, output, size, left - 1, place, a)
+        }
+        Head::Product(e) => {
+            let a = passed(e, st);
+            let b = note_spelled_givens(s, environment, work, output, size, left - 1, place, a);
+            note_spelled_givens(s, environment, work, output, size, left - 1, place, b)
+        }
     }
-    if k == 0x41 {
-        return moved(1, st);
-    }
-    if k == 0x42 {
-        let name = Name(word(s, st.at, 1));
-        return note(environment, work, output, size, name, place, moved(3, st));
-    }
-    if k == 0x43 {
-        return note_spelled_givens(
-            s,
-            environment,
-            work,
-            output,
-            size,
-            left - 1,
-            place,
-            moved(1, st),
-        );
-    }
-    if k == 0x44 {
-        let a = note_spelled_givens(
-            s,
-            environment,
-            work,
-            output,
-            size,
-            left - 1,
-            place,
-            moved(1, st),
-        );
-        return note_spelled_givens(s, environment, work, output, size, left - 1, place, a);
-    }
-    stopped(2, st)
 }
 
 // The type record where the walk stands is compared with a reference.
@@ -747,39 +702,66 @@ pub fn ascription(
     ensures { λ r. ⌜ mach size r (now (work .exit)) (now (output .exit)) ≡ ascriptionOf (now (s .entry)) (now (environment .entry)) (x .0) (place .0) (mach size st (now (work .entry)) (now (output .entry))) ⌝ }
 {
     let at = st.at;
-    let k = byte(s, at, 0);
-    if k == 0x4F {
-        let a = list(output, 0, at, Name(NO_NAME), st);
-        return moved(1, a);
+    match heads::byte_at(s, at) {
+        Byte::Missing => stopped(2, st),
+        Byte::Of(k, e) => {
+            if k == 0x4F {
+                return placed(e, list(output, 0, at, Name(NO_NAME), st));
+            }
+            spelled(s, environment, work, output, size, x, at, place, st)
+        }
     }
-    spelled(s, environment, work, output, size, x, at, place, st)
 }
 
-// What a declaration's kind says of its reference: nothing, a type, an annotation.
+// What a declaration's head says of its reference: nothing, a type, an annotation.
 fn claim(
     s: &[u8],
     environment: &[u8],
     work: &mut [u32],
     output: &mut [u8],
     size: u32,
-    kind: u8,
+    h: DeclHead,
     x: NodeRef,
     place: Place,
     st: State,
 ) -> State
-    ensures { λ r. ⌜ mach size r (now (work .exit)) (now (output .exit)) ≡ claimOf (now (s .entry)) (now (environment .entry)) kind (x .0) (place .0) (mach size st (now (work .entry)) (now (output .entry))) ⌝ }
+    ensures { λ r. ⌜ mach size r (now (work .exit)) (now (output .exit)) ≡ claimOf (now (s .entry)) (now (environment .entry)) h (x .0) (place .0) (mach size st (now (work .entry)) (now (output .entry))) ⌝ }
 {
-    if kind == 0x10 {
-        return st;
+    match h {
+        DeclHead::Plain(_) => st,
+        DeclHead::Typed(_) => meets(s, work, output, size, x, place, st),
+        DeclHead::Annotated(_) => match heads::byte_at(s, st.at) {
+            Byte::Missing => stopped(2, st),
+            Byte::Of(k, e) => {
+                if k == 0x4F {
+                    return placed(e, st);
+                }
+                spelled(s, environment, work, output, size, x, place, place, st)
+            }
+        },
     }
-    if kind == 0x11 {
-        return meets(s, work, output, size, x, place, st);
-    }
-    let k = byte(s, st.at, 0);
-    if k == 0x4F {
-        return moved(1, st);
-    }
-    spelled(s, environment, work, output, size, x, place, place, st)
+}
+
+// One declaration, with its head.
+fn declared(
+    s: &[u8],
+    environment: &[u8],
+    work: &mut [u32],
+    output: &mut [u8],
+    size: u32,
+    h: DeclHead,
+    st: State,
+) -> State
+    ensures { λ r. ⌜ mach size r (now (work .exit)) (now (output .exit)) ≡ declarationBy (now (s .entry)) (now (environment .entry)) (Is h) (mach size st (now (work .entry)) (now (output .entry))) ⌝ }
+{
+    let slot = st.slots;
+    let place = st.at;
+    let a = placed(heads::decl_end(h), enter(st));
+    let b = make(work, size, 0x4E, 0, 0, a);
+    let x = b.last;
+    let c = leave(work, size, slot, place, b);
+    let d = push_bound(work, size, c);
+    claim(s, environment, work, output, size, h, x, place, d)
 }
 
 // One declaration.
@@ -793,15 +775,10 @@ fn declaration(
 ) -> State
     ensures { λ r. ⌜ mach size r (now (work .exit)) (now (output .exit)) ≡ declarationOf (now (s .entry)) (now (environment .entry)) (mach size st (now (work .entry)) (now (output .entry))) ⌝ }
 {
-    let slot = st.slots;
-    let place = st.at;
-    let kind = byte(s, place, 0);
-    let a = moved(1, enter(st));
-    let b = make(work, size, 0x4E, 0, 0, a);
-    let x = b.last;
-    let c = leave(work, size, slot, place, b);
-    let d = push_bound(work, size, c);
-    claim(s, environment, work, output, size, kind, x, place, d)
+    match heads::decl_head(s, st.at) {
+        DeclAt::Wrong => stopped(2, st),
+        DeclAt::Is(h) => declared(s, environment, work, output, size, h, st),
+    }
 }
 
 // n declarations.

@@ -5,9 +5,8 @@ use mathlib.Core.Path.{_≡_, refl, sym, _∙_, ap, ap₂}
 use mathlib.Core.List.{List, [], _∷_, _++_}
 use native.Mathlib.Omega.{arith}
 use native.Mathlib.Decide.{decLt}
-use lib.ListN.{length, getD, drop, drop-of-length-le}
+use lib.ListN.{length, getD, drop, drop-of-length-le, length-drop, length-append}
 use lib.Seq.{drop-drop, drop-append-seam}
-use Rattle.machine.specs.Machine.{byteAt, wordAt}
 
 getD-drop : (s : List ℕ) (p i : ℕ) → getD s (p + i) 0 ≡ getD (drop p s) i 0
 getD-drop s zero i = let e : 0 + i ≡ i = omega arith in ap (λ (k : ℕ). getD s k 0) e
@@ -15,12 +14,11 @@ getD-drop [] (suc p) i = refl
 getD-drop (x ∷ s) (suc p) i = let e : suc p + i ≡ suc (p + i) = omega arith in ap (λ (k : ℕ). getD (x ∷ s) k 0) e ∙ getD-drop s p i
 
 -- the byte i after p
-pub byte-of : (s l : List ℕ) (p i : ℕ) → drop p s ≡ l → byteAt s p i ≡ getD l i 0
+pub byte-of : (s l : List ℕ) (p i : ℕ) → drop p s ≡ l → getD s (p + i) 0 ≡ getD l i 0
 byte-of s l p i e = getD-drop s p i ∙ ap (λ (k : List ℕ). getD k i 0) e
 
 -- the word i after p, of a number spelled in two bytes there
-pub word-of : (s l : List ℕ) (p i x : ℕ) → drop p s ≡ l → getD l i 0 ≡ x % 256 → getD l (i + 1) 0 ≡ x / 256 → wordAt s p i ≡ x
-unfolding wordAt
+pub word-of : (s l : List ℕ) (p i x : ℕ) → drop p s ≡ l → getD l i 0 ≡ x % 256 → getD l (i + 1) 0 ≡ x / 256 → getD s (p + i) 0 + getD s (p + i + 1) 0 * 256 ≡ x
 word-of s l p i x e f g =
     let a : getD s (p + i) 0 ≡ x % 256 = byte-of s l p i e ∙ f in
     let z : p + i + 1 ≡ p + (i + 1) = omega arith in
@@ -42,3 +40,10 @@ place-inside s p k l e = by (decLt p (length s))
     by : Dec (p < length s) → p < length s
     by (yes h) = h
     by (no h) = none (omega arith)
+
+-- and so do all that are there
+pub end-inside : (s xs ys : List ℕ) (p : ℕ) → 0 < length xs → drop p s ≡ xs ++ ys → p + length xs ≤ length s
+end-inside s xs ys p l e =
+    let a = length-drop p s in
+    let b : length (drop p s) ≡ length xs + length ys = ap length e ∙ length-append xs ys in
+    omega arith

@@ -1,7 +1,7 @@
 -- Ascriptions and declarations: what a spelled type or 4F asks, and declarations one after the other, the last declared innermost.
 -- After this file `ascriptionOf` and `declareOf` run the walk's `ascription` and `declare` where the bytes spell them.
 use Prim.Native.Nat.{ℕ, suc, _+_, _-_, _≤_, _<_}
-use mathlib.Core.Path.{_≡_, refl, sym, _∙_, ap, ap₂, subst}
+use mathlib.Core.Path.{_≡_, refl, sym, _∙_, ap, subst}
 use mathlib.Core.Bool.{Bool, true, false}
 use mathlib.Core.List.{List, [], _∷_, _++_}
 use native.Mathlib.Omega.{arith}
@@ -9,12 +9,21 @@ use lib.ListN.{length, getD, drop, set, length-set}
 use lib.Seq.{getD-set-same, getD-set-other}
 use lib.Dec.{eqb, ltb}
 use borrow.Author.Tests.{lt-ltb, eq-eqb, ne-eqb}
-use Rattle.types.specs.Ty.{Atom, bool, int, given, Ty, base, pow, prod, depth, spell, AtomBelow, bool-below, int-below, given-below, Below}
+use Rattle.types.specs.Ty.{Atom, bool, int, given, Ty, base, pow, prod, depth, spell, spellAtom, AtomBelow, bool-below, int-below, given-below, Below}
 use Rattle.formula.specs.Environment.{Env}
 use Rattle.formula.specs.Tree.{Spelling, spells, no-type, Decl, plain, typed, annotated, decls}
 use Rattle.formula.specs.Spell.{spell-spelling, spell-decl, spell-decls, size-decl, size-decls, Placed-decl, Placed-decls}
 use Rattle.formula_laws.specs.Fits.{Fits-ty, Fits-spelling, Fits-decl, Fits-decls}
 use Rattle.formula_laws.specs.Sizes.{length-decl}
+use Rattle.formula_laws.specs.Complete.{byte-here, head-plain, head-typed, head-annotated}
+use Rattle.heads.specs.declared.Byte.{Byte}
+use Rattle.heads.specs.declared.Byte.the-variants.{Of}
+use Rattle.heads.specs.declared.DeclHead.{DeclHead}
+use Rattle.heads.specs.declared.DeclHead.the-variants.{Plain, Typed, Annotated}
+use Rattle.heads.specs.declared.DeclAt.{DeclAt}
+use Rattle.heads.specs.declared.DeclAt.the-variants.{Is}
+use Rattle.heads.specs.Heads.{place, reach, byteAt, declHead, declEnd}
+use Rattle.heads.specs.Reads.{reach-all}
 use Rattle.meter.specs.Meter.{Out}
 use Rattle.unification.specs.Arena.{U}
 use Rattle.unification.specs.Make.{builds-unknown}
@@ -25,19 +34,18 @@ use Rattle.walk.specs.Walk.{meets, spelled, ascription, claim, at-decl, declare
 use Rattle.inference.specs.Finish.{names}
 use Rattle.machine.specs.declared.State.{State}
 use Rattle.machine.specs.Forms.{test, then}
-use Rattle.machine.specs.Machine.{Mach, withSt, byteAt, cell, putOf, stoppedOf, movedOf, arrivedOf, boundOf, leftOf, paidOf, enterOf, makeOf, listOf, leaveOf, pushBoundOf}
-use Rattle.machine.specs.Types.{meetsOf, spelledOf, ascriptionOf, claimOf, declarationOf, timesOf, declareOf}
+use Rattle.machine.specs.Machine.{Mach, withSt, cell, putOf, stoppedOf, placedOf, arrivedOf, boundOf, leftOf, paidOf, enterOf, makeOf, listOf, leaveOf, pushBoundOf}
+use Rattle.machine.specs.Types.{meetsOf, spelledOf, ascriptionBy, ascriptionOf, annotationBy, claimOf, declarationBy, declarationOf, timesOf, declareOf}
 use Rattle.simulation.specs.Relation.{Books, Ended, Runs}
 use Rattle.simulation.specs.Bind.{runs-bind}
-use Rattle.simulation.specs.Stand.{test-yes, test-no, standing, runs-if, runs-map, runs-stand}
-use Rattle.simulation.specs.Still.{still-make, still-moved, still-claim, still-push, still-declare, still-within}
-use Rattle.simulation.specs.Steps.{runs-then, runs-prior}
+use Rattle.simulation.specs.Stand.{test-yes, test-no, standing, placed-eq, runs-if, runs-map, runs-stand}
+use Rattle.simulation.specs.Still.{still-make, still-placed, still-claim, still-push, still-declare, still-within}
+use Rattle.simulation.specs.Steps.{runs-after, runs-then, runs-prior}
 use Rattle.simulation.specs.Output.{assoc}
 use Rattle.simulation.specs.Nodes.{Came, Gave, Stood, runs-make, runs-list}
-use Rattle.simulation.specs.Bytes.{byte-of, drop-past, place-inside}
-use Rattle.simulation.specs.Lift.{moved, moved-at}
+use Rattle.simulation.specs.Bytes.{drop-past}
 use Rattle.simulation.specs.Slots.{noted-kept, listed-kept, opened-kept, entered-kept, runs-expr}
-use Rattle.simulation.specs.Stream.{head-is, head-small, after-moved, runs-meets, runs-spelled}
+use Rattle.simulation.specs.Stream.{runs-meets, runs-spelled}
 
 -- ---- what a step of the state keeps
 pub test-keeps : {A : Type 0} {C : Type 0} (f : A → C) (c : Bool) (x y : Unit {0} → A) (z : C) → f (x tt) ≡ z → f (y tt) ≡ z → f (test c x y) ≡ z
@@ -94,6 +102,18 @@ after-kind (plain p) = []
 after-kind (typed p t) = spell t
 after-kind (annotated p s) = spell-spelling s
 
+-- and the head that they say, whose end is e
+unfoldable opening : Decl → ℕ → DeclHead
+opening (plain p) e = Plain (place e)
+opening (typed p t) e = Typed (place e)
+opening (annotated p s) e = Annotated (place e)
+
+opening-end : (d : Decl) (e : ℕ) → declEnd (opening d e) .0 ≡ e
+unfolding opening declEnd
+opening-end (plain p) e = refl
+opening-end (typed p t) e = refl
+opening-end (annotated p s) e = refl
+
 decl-bytes : (d : Decl) → spell-decl d ≡ kind d ∷ after-kind d
 unfolding spell-decl kind after-kind
 decl-bytes (plain p) = refl
@@ -104,69 +124,91 @@ module _ (Γ : Env) (env : List ℕ) (cap room : ℕ) (wide : cap ≤ 32768) (br
   abbrev To : Mach → ℕ → U → Mach → Type 0
   To m n _ v = Stood {A = U} (m .st .at .0 + n) (m .st .from .0) tt v
 
-  type-byte : (t : Ty) (rest : List ℕ) (p : ℕ) → drop p s ≡ spell t ++ rest → byteAt s p 0 ≡ 0x4F → ⊥
-  type-byte t rest p e f = let a = byte-of s (spell t ++ rest) p 0 e in let b = head-is t rest in let c = head-small t in omega arith
+  -- the machine at a place
+  abbrev placed : ℕ → Mach → Mach
+  placed e m = withSt (placedOf e (m .st)) m
+
+  placed-at : (e : ℕ) (m : Mach) → m .st .stop ≡ 0 → placed e m ≡ withSt (standing e (m .st .from .0) (m .st .last .0) (m .st)) m
+  placed-at e m g = ap (λ (v : State). withSt v m) (placed-eq e (m .st) g)
+
+  -- ---- heads where the bytes are known
+  byte-first : (p k : ℕ) (l : List ℕ) → drop p s ≡ k ∷ l → byteAt (reach s) (place p) ≡ Of k (place (p + 1))
+  byte-first p k l e = ap (λ (z : List ℕ). byteAt z (place p)) (reach-all s (omega arith)) ∙ byte-here s p k l e
+
+  decl-first : (z : Decl) (p : ℕ) (rest : List ℕ) → drop p s ≡ kind z ∷ rest → declHead (reach s) (place p) ≡ Is (opening z (p + 1))
+  unfolding kind opening
+  decl-first (plain r) p rest e = ap (λ (z : List ℕ). declHead z (place p)) (reach-all s (omega arith)) ∙ head-plain s p rest e
+  decl-first (typed r t) p rest e = ap (λ (z : List ℕ). declHead z (place p)) (reach-all s (omega arith)) ∙ head-typed s p rest e
+  decl-first (annotated r x) p rest e = ap (λ (z : List ℕ). declHead z (place p)) (reach-all s (omega arith)) ∙ head-annotated s p rest e
+
+  -- a type's first byte is not 4F
+  type-first : (t : Ty) (rest : List ℕ) (p : ℕ) → drop p s ≡ spell t ++ rest → (k : ℕ) × (byteAt (reach s) (place p) ≡ Of k (place (p + 1))) × (k ≡ 0x4F → ⊥)
+  unfolding spell spellAtom
+  type-first (base bool) rest p e = (0x40, byte-first p 0x40 rest e, λ q. omega arith)
+  type-first (base int) rest p e = (0x41, byte-first p 0x41 rest e, λ q. omega arith)
+  type-first (base (given x)) rest p e = (0x42, byte-first p 0x42 _ e, λ q. omega arith)
+  type-first (pow t) rest p e = (0x43, byte-first p 0x43 (spell t ++ rest) e, λ q. omega arith)
+  type-first (prod t u) rest p e = (0x44, byte-first p 0x44 ((spell t ++ spell u) ++ rest) e, λ q. omega arith)
 
   -- ---- an ascription
-  asc-none : (x p : ℕ) (m : Mach) → byteAt s (m .st .at .0) 0 ≡ 0x4F → ascriptionOf s env x p m ≡ moved 1 (listOf 0 (m .st .at .0) 0xFFFF m)
-  unfolding ascriptionOf then
-  asc-none x p m e = test-yes (eqb (byteAt s (m .st .at .0) 0) 0x4F) _ _ (eq-eqb (byteAt s (m .st .at .0) 0) 0x4F e)
+  asc-none : (x p : ℕ) (m : Mach) → byteAt (reach s) (m .st .at) ≡ Of 0x4F (place (m .st .at .0 + 1)) → ascriptionOf s env x p m ≡ placed (m .st .at .0 + 1) (listOf 0 (m .st .at .0) 0xFFFF m)
+  unfolding ascriptionOf ascriptionBy then test
+  asc-none x p m e = ap (λ (b : Byte). ascriptionBy s env x p b m) e
 
-  asc-type : (x p : ℕ) (m : Mach) → (byteAt s (m .st .at .0) 0 ≡ 0x4F → ⊥) → ascriptionOf s env x p m ≡ spelledOf s env x (m .st .at .0) p m
-  unfolding ascriptionOf then
-  asc-type x p m e = test-no (eqb (byteAt s (m .st .at .0) 0) 0x4F) _ _ (ne-eqb (byteAt s (m .st .at .0) 0) 0x4F e)
+  asc-type : (x p k : ℕ) (m : Mach) → byteAt (reach s) (m .st .at) ≡ Of k (place (m .st .at .0 + 1)) → (k ≡ 0x4F → ⊥) → ascriptionOf s env x p m ≡ spelledOf s env x (m .st .at .0) p m
+  unfolding ascriptionOf ascriptionBy then
+  asc-type x p k m e h = ap (λ (b : Byte). ascriptionBy s env x p b m) e ∙ test-no (eqb k 0x4F) _ _ (ne-eqb k 0x4F h)
 
   pub runs-ascription : (z : Spelling) (d x p : ℕ) (m : Mach) (B rest : List ℕ) → Fits-spelling most d z → drop (m .st .at .0) s ≡ spell-spelling z ++ rest
       → Runs Γ env cap room m (ascriptionOf s env x p m) (ascription Γ z x (m .st .at .0) p) B (λ _. B) (To m (length (spell-spelling z)))
   unfolding ascription spell-spelling Fits-spelling
   runs-ascription (spells t) d x p m B rest f e =
-      runs-if Γ env cap room m (ascriptionOf s env x p m) (spelledOf s env x (m .st .at .0) p m) (spelled Γ t x (m .st .at .0) p) B (λ _. B) _ (λ g. asc-type x p m (type-byte t rest (m .st .at .0) e))
+      runs-if Γ env cap room m (ascriptionOf s env x p m) (spelledOf s env x (m .st .at .0) p m) (spelled Γ t x (m .st .at .0) p) B (λ _. B) _ (λ g. (let h = type-first t rest (m .st .at .0) e in asc-type x p (h .0) m (h .1) (h .2)))
       (runs-spelled Γ env cap room wide brief s short B t x (m .st .at .0) p m rest (fits-deep most d t f) (fits-below most d t few f) e)
   runs-ascription no-type d x p m B rest f e =
       let m1 : Mach = listOf 0 (m .st .at .0) 0xFFFF m in
-      let q = place-inside s (m .st .at .0) 0x4F rest e in
-      runs-if Γ env cap room m (ascriptionOf s env x p m) (moved 1 m1) (problem 0 (m .st .at .0)) B (λ _. B) _ (λ g. asc-none x p m (byte-of s (0x4F ∷ rest) (m .st .at .0) 0 e))
-      (runs-then Γ env cap room m m1 (moved 1 m1) (problem 0 (m .st .at .0)) B (λ _. B) (λ _ v. Stood {A = U} (m .st .at .0) (m .st .from .0) tt v) (To m 1)
-      (λ h. ap (λ (v : State). v .stop) (still-moved 1 (m1 .st) h))
-      (λ _ g c. (let c0 = c .0 in (m1 .st .at .0 + 1, m1 .st .from .0, m1 .st .last .0, moved-at 1 m1 g (omega arith), (ap (λ (k : ℕ). k + 1) (c .0), c .1))))
+      let E : ℕ = m .st .at .0 + 1 in
+      runs-if Γ env cap room m (ascriptionOf s env x p m) (placed E m1) (problem 0 (m .st .at .0)) B (λ _. B) _ (λ g. asc-none x p m (byte-first (m .st .at .0) 0x4F rest e))
+      (runs-then Γ env cap room m m1 (placed E m1) (problem 0 (m .st .at .0)) B (λ _. B) (λ _ v. Stood {A = U} (m .st .at .0) (m .st .from .0) tt v) (To m 1)
+      (λ h. ap (λ (v : State). v .stop) (still-placed E (m1 .st) h))
+      (λ _ g c. (E, m1 .st .from .0, m1 .st .last .0, placed-at E m1 g, (refl, c .1)))
       (runs-list Γ env cap room wide 0 (m .st .at .0) m B))
 
-  -- ---- what a declaration's kind asks
-  claim-plain : (x p : ℕ) (m : Mach) → claimOf s env 0x10 x p m ≡ m
-  unfolding claimOf test
-  claim-plain x p m = refl
+  -- ---- what a declaration's head asks
+  claim-plain : (e : ℕ) (x p : ℕ) (m : Mach) → claimOf s env (Plain (place e)) x p m ≡ m
+  unfolding claimOf
+  claim-plain e x p m = refl
 
-  claim-typed : (x p : ℕ) (m : Mach) → claimOf s env 0x11 x p m ≡ meetsOf s x p m
-  unfolding claimOf test
-  claim-typed x p m = refl
+  claim-typed : (e : ℕ) (x p : ℕ) (m : Mach) → claimOf s env (Typed (place e)) x p m ≡ meetsOf s x p m
+  unfolding claimOf
+  claim-typed e x p m = refl
 
-  claim-none : (x p : ℕ) (m : Mach) → byteAt s (m .st .at .0) 0 ≡ 0x4F → claimOf s env 0x12 x p m ≡ moved 1 m
-  unfolding claimOf test then
-  claim-none x p m e = rw e refl
+  claim-none : (e x p : ℕ) (m : Mach) → byteAt (reach s) (m .st .at) ≡ Of 0x4F (place (m .st .at .0 + 1)) → claimOf s env (Annotated (place e)) x p m ≡ placed (m .st .at .0 + 1) m
+  unfolding claimOf annotationBy then test
+  claim-none e x p m h = ap (λ (b : Byte). annotationBy s env x p b m) h
 
-  claim-spelled : (x p : ℕ) (m : Mach) → (byteAt s (m .st .at .0) 0 ≡ 0x4F → ⊥) → claimOf s env 0x12 x p m ≡ spelledOf s env x p p m
-  unfolding claimOf test then
-  claim-spelled x p m e = rw (ne-eqb (byteAt s (m .st .at .0) 0) 0x4F e) refl
+  claim-spelled : (e x p k : ℕ) (m : Mach) → byteAt (reach s) (m .st .at) ≡ Of k (place (m .st .at .0 + 1)) → (k ≡ 0x4F → ⊥) → claimOf s env (Annotated (place e)) x p m ≡ spelledOf s env x p p m
+  unfolding claimOf annotationBy then
+  claim-spelled e x p k m h n = ap (λ (b : Byte). annotationBy s env x p b m) h ∙ test-no (eqb k 0x4F) _ _ (ne-eqb k 0x4F n)
 
-  runs-claim : (z : Decl) (d x p : ℕ) (m : Mach) (B rest : List ℕ) → Fits-decl most d z → Placed-decl p z → drop (m .st .at .0) s ≡ after-kind z ++ rest
-      → Runs Γ env cap room m (claimOf s env (kind z) x p m) (claim Γ z x) B (λ _. B) (To m (length (after-kind z)))
-  unfolding claim kind after-kind Fits-decl Placed-decl Fits-spelling spell-spelling
-  runs-claim (plain r) d x p m B rest f w e =
+  runs-claim : (z : Decl) (d x p n : ℕ) (m : Mach) (B rest : List ℕ) → Fits-decl most d z → Placed-decl p z → drop (m .st .at .0) s ≡ after-kind z ++ rest
+      → Runs Γ env cap room m (claimOf s env (opening z n) x p m) (claim Γ z x) B (λ _. B) (To m (length (after-kind z)))
+  unfolding claim opening after-kind Fits-decl Placed-decl Fits-spelling spell-spelling
+  runs-claim (plain r) d x p n m B rest f w e =
       let z : m .st .at .0 ≡ m .st .at .0 + 0 = omega arith in
-      runs-if Γ env cap room m (claimOf s env 0x10 x p m) m (done tt) B (λ _. B) (To m 0) (λ g. claim-plain x p m)
+      runs-if Γ env cap room m (claimOf s env (Plain (place n)) x p m) m (done tt) B (λ _. B) (To m 0) (λ g. claim-plain n x p m)
       (runs-stand Γ env cap room m (m .st .at .0) (m .st .from .0) (m .st .last .0) tt B (To m 0) (z, refl))
-  runs-claim (typed r t) d x p m B rest f w e =
-      subst (λ (q : ℕ). Runs Γ env cap room m (claimOf s env 0x11 x p m) (meets Γ t x q) B (λ _. B) (To m (length (spell t)))) (sym w)
-      (runs-if Γ env cap room m (claimOf s env 0x11 x p m) (meetsOf s x p m) (meets Γ t x p) B (λ _. B) (To m (length (spell t))) (λ g. claim-typed x p m)
-      (runs-meets Γ env cap room wide brief s short B t x p m rest (fits-deep most (suc d) t (f .1)) e))
-  runs-claim (annotated r (spells t)) d x p m B rest f w e =
-      subst (λ (q : ℕ). Runs Γ env cap room m (claimOf s env 0x12 x p m) (spelled Γ t x q q) B (λ _. B) (To m (length (spell t)))) (sym w)
-      (runs-if Γ env cap room m (claimOf s env 0x12 x p m) (spelledOf s env x p p m) (spelled Γ t x p p) B (λ _. B) (To m (length (spell t))) (λ g. claim-spelled x p m (type-byte t rest (m .st .at .0) e))
+  runs-claim (typed r t) d x p n m B rest f w e =
+      subst (λ (q : ℕ). Runs Γ env cap room m (claimOf s env (Typed (place n)) x p m) (meets Γ t x q) B (λ _. B) (To m (length (spell t)))) (sym w)
+      (runs-if Γ env cap room m (claimOf s env (Typed (place n)) x p m) (meetsOf s x p m) (meets Γ t x p) B (λ _. B) (To m (length (spell t))) (λ g. claim-typed n x p m)
+      (runs-meets Γ env cap room wide brief s short B t x p m rest (fits-deep most (suc d) t (f .1)) (fits-below most (suc d) t few (f .1)) e))
+  runs-claim (annotated r (spells t)) d x p n m B rest f w e =
+      subst (λ (q : ℕ). Runs Γ env cap room m (claimOf s env (Annotated (place n)) x p m) (spelled Γ t x q q) B (λ _. B) (To m (length (spell t)))) (sym w)
+      (runs-if Γ env cap room m (claimOf s env (Annotated (place n)) x p m) (spelledOf s env x p p m) (spelled Γ t x p p) B (λ _. B) (To m (length (spell t))) (λ g. (let h = type-first t rest (m .st .at .0) e in claim-spelled n x p (h .0) m (h .1) (h .2)))
       (runs-spelled Γ env cap room wide brief s short B t x p p m rest (fits-deep most (suc d) t (f .1)) (fits-below most (suc d) t few (f .1)) e))
-  runs-claim (annotated r no-type) d x p m B rest f w e =
-      let q = place-inside s (m .st .at .0) 0x4F rest e in
-      runs-if Γ env cap room m (claimOf s env 0x12 x p m) (withSt (standing (m .st .at .0 + 1) (m .st .from .0) (m .st .last .0) (m .st)) m) (done tt) B (λ _. B) (To m 1)
-      (λ g. claim-none x p m (byte-of s (0x4F ∷ rest) (m .st .at .0) 0 e) ∙ moved-at 1 m g (omega arith))
+  runs-claim (annotated r no-type) d x p n m B rest f w e =
+      runs-if Γ env cap room m (claimOf s env (Annotated (place n)) x p m) (withSt (standing (m .st .at .0 + 1) (m .st .from .0) (m .st .last .0) (m .st)) m) (done tt) B (λ _. B) (To m 1)
+      (λ g. claim-none n x p m (byte-first (m .st .at .0) 0x4F rest e) ∙ placed-at (m .st .at .0 + 1) m g)
       (runs-stand Γ env cap room m (m .st .at .0 + 1) (m .st .from .0) (m .st .last .0) tt B (To m 1) (refl, refl))
 
   -- ---- a declaration opened
@@ -226,23 +268,25 @@ module _ (Γ : Env) (env : List ℕ) (cap room : ℕ) (wide : cap ≤ 32768) (br
   Started m = withSt (enterOf (m .st)) m
 
   abbrev Fresh : Mach → Mach
-  Fresh m = makeOf 0x4E 0 0 (moved 1 (Started m))
+  Fresh m = makeOf 0x4E 0 0 (placed (m .st .at .0 + 1) (Started m))
 
   abbrev Owned : Mach → Mach
   Owned m = leaveOf (m .st .slots) (m .st .at .0) (Fresh m)
 
-  declaration-is : (m : Mach) → declarationOf s env m ≡ claimOf s env (byteAt s (m .st .at .0) 0) (Fresh m .st .last .0) (m .st .at .0) (pushBoundOf (Owned m))
-  unfolding declarationOf then
-  declaration-is m = refl
+  declaration-is : (m : Mach) (h : DeclHead) → declHead (reach s) (m .st .at) ≡ Is h → declEnd h .0 ≡ m .st .at .0 + 1 → declarationOf s env m ≡ claimOf s env h (Fresh m .st .last .0) (m .st .at .0) (pushBoundOf (Owned m))
+  unfolding declarationOf declarationBy then
+  declaration-is m h e q =
+      ap (λ (k : DeclAt). declarationBy s env k m) e
+      ∙ ap (λ (j : ℕ). (let b = makeOf 0x4E 0 0 (placed j (Started m)) in claimOf s env h (b .st .last .0) (m .st .at .0) (pushBoundOf (leaveOf (m .st .slots) (m .st .at .0) b)))) q
 
-  owned-runs : (m : Mach) (B : List ℕ) → m .st .at .0 < 65536 → Runs Γ env cap room m (Owned m) (enter (own (m .st .at .0) unknown)) B (λ _. B) (λ r v. Came (m .st .at .0 + 1) (m .st .at .0) r v)
-  owned-runs m B l =
+  owned-runs : (m : Mach) (B : List ℕ) → Runs Γ env cap room m (Owned m) (enter (own (m .st .at .0) unknown)) B (λ _. B) (λ r v. Came (m .st .at .0 + 1) (m .st .at .0) r v)
+  owned-runs m B =
       let m0 : Mach = Started m in
-      let a : m0 .st .at .0 ≡ m .st .at .0 = enter-at (m .st) in
-      runs-expr Γ env cap room m (Fresh m) (m .st .at .0) (m .st .at .0 + 1) unknown B
-      (λ h. ap (makeOf 0x4E 0 0) (still-within (movedOf 1) m0 (still-moved 1 (m0 .st) h)) ∙ still-make 0x4E 0 0 m0 h)
-      (after-moved Γ env cap room wide brief s short B 1 m0 (Fresh m) unknown B (λ _. B) (λ r v. Gave (m .st .at .0 + 1) r v) (omega arith)
-      (λ g at1 from1. runs-map Γ env cap room (moved 1 m0) (Fresh m) unknown B (λ _. B) _ _ (λ r y. (y .0 ∙ at1 ∙ ap (λ (k : ℕ). k + 1) a, y .2)) (runs-make Γ env cap room wide 0x4E 0 0 (moved 1 m0) builds-unknown B)))
+      let E : ℕ = m .st .at .0 + 1 in
+      runs-expr Γ env cap room m (Fresh m) (m .st .at .0) E unknown B
+      (λ h. ap (makeOf 0x4E 0 0) (still-within (placedOf E) m0 (still-placed E (m0 .st) h)) ∙ still-make 0x4E 0 0 m0 h)
+      (runs-after Γ env cap room m0 (placed E m0) (Fresh m) E (m0 .st .from .0) (m0 .st .last .0) unknown B (λ _. B) (λ r v. Gave E r v) (λ g. placed-at E m0 g)
+      (λ g. runs-map Γ env cap room (placed E m0) (Fresh m) unknown B (λ _. B) _ _ (λ r y. (y .0 ∙ ap (λ (x : Mach). x .st .at .0) (placed-at E m0 g), y .2)) (runs-make Γ env cap room wide 0x4E 0 0 (placed E m0) builds-unknown B)))
 
   abbrev Declared : Mach → List Decl → List ℕ → Mach → Type 0
   Declared m ds xs v = (v .st .at .0 ≡ m .st .at .0 + size-decls ds) × (length xs ≡ decls ds)
@@ -268,24 +312,24 @@ module _ (Γ : Env) (env : List ℕ) (cap room : ℕ) (wide : cap ≤ 32768) (br
   runs-declare (z ∷ ds) d m B rest l f w e =
       let P : ℕ = m .st .at .0 in
       let e0 : drop P s ≡ kind z ∷ (after-kind z ++ (spell-decls ds ++ rest)) = e ∙ assoc (spell-decl z) (spell-decls ds) rest ∙ ap (λ (k : List ℕ). k ++ (spell-decls ds ++ rest)) (decl-bytes z) in
-      let q = place-inside s P (kind z) (after-kind z ++ (spell-decls ds ++ rest)) e0 in
       let e1 : drop (P + 1) s ≡ after-kind z ++ (spell-decls ds ++ rest) = drop-past s (kind z ∷ []) (after-kind z ++ (spell-decls ds ++ rest)) P e0 in
       let M1 : Mach = Owned m in
       let M2 : Mach = pushBoundOf M1 in
       let D : Mach = declarationOf s env m in
       let F : Mach = declareOf s env (decls ds) D in
+      let DI = declaration-is m (opening z (P + 1)) (decl-first z P (after-kind z ++ (spell-decls ds ++ rest)) e0) (opening-end z (P + 1)) in
       let sz : suc (length (after-kind z)) ≡ size-decl z = sym (ap length (decl-bytes z)) ∙ length-decl z in
       runs-bind Γ env cap room m M1 F (enter (own (at-decl Γ z) unknown)) (λ x. claim Γ z x >>= λ _. declare Γ ds >>= λ xs. done (x ∷ xs)) B (λ _. B) (λ xs. over xs B) (λ r v. Came (P + 1) P r v) (λ xs v. Declared m (z ∷ ds) xs v)
       (λ h. ap (λ (y : Mach). y .st .stop) (
       let p1 : M2 ≡ M1 = still-push M1 h in
-      let p2 : D ≡ M1 = declaration-is m ∙ ap (claimOf s env (byteAt s P 0) (Fresh m .st .last .0) P) p1 ∙ still-claim s env (byteAt s P 0) (Fresh m .st .last .0) P M1 h in
+      let p2 : D ≡ M1 = DI ∙ ap (claimOf s env (opening z (P + 1)) (Fresh m .st .last .0) P) p1 ∙ still-claim s env (opening z (P + 1)) (Fresh m .st .last .0) P M1 h in
       ap (declareOf s env (decls ds)) p2 ∙ still-declare s env (decls ds) M1 h))
       (λ x c. (
-      let DD : D ≡ claimOf s env (kind z) x P M2 = declaration-is m ∙ ap₂ (λ (k r : ℕ). claimOf s env k r P M2) (byte-of s (kind z ∷ (after-kind z ++ (spell-decls ds ++ rest))) P 0 e0) (sym (leave-last (m .st .slots) P (Fresh m)) ∙ c .2) in
+      let DD : D ≡ claimOf s env (opening z (P + 1)) x P M2 = DI ∙ ap (λ (r : ℕ). claimOf s env (opening z (P + 1)) r P M2) (sym (leave-last (m .st .slots) P (Fresh m)) ∙ c .2) in
       let c0 = c .0 in
       runs-prior Γ env cap room M1 M2 F tt (claim Γ z x >>= λ _. declare Γ ds >>= λ xs. done (x ∷ xs)) B (x ∷ B) (λ xs. over xs B) (To M1 0) (λ xs v. Declared m (z ∷ ds) xs v)
       (λ h. ap (λ (y : Mach). y .st .stop) (
-      let p2 : D ≡ M2 = DD ∙ still-claim s env (kind z) x P M2 h in
+      let p2 : D ≡ M2 = DD ∙ still-claim s env (opening z (P + 1)) x P M2 h in
       ap (declareOf s env (decls ds)) p2 ∙ still-declare s env (decls ds) M2 h))
       (subst (λ (r : ℕ). Runs Γ env cap room M1 M2 (done tt) B (λ _. r ∷ B) (To M1 0)) (c .2) (runs-push M1 B (omega arith)))
       (λ _ c2. (
@@ -301,6 +345,6 @@ module _ (Γ : Env) (env : List ℕ) (cap room : ℕ) (wide : cap ≤ 32768) (br
       (λ h. refl)
       (λ xs c4. (let c40 = c4 .0 in listed-last F x (P + (size-decl z + size-decls ds)) (decls ds) xs B (omega arith) (c4 .1)))
       (runs-declare ds d D (x ∷ B) rest (omega arith) (f .1) (subst (λ (k : ℕ). Placed-decls k ds) (sym a3) (w .1)) (ap (λ (k : ℕ). drop k s) a3′ ∙ drop-past s (after-kind z) (spell-decls ds ++ rest) (P + 1) e1))))
-      (runs-if Γ env cap room M2 D (claimOf s env (kind z) x P M2) (claim Γ z x) (x ∷ B) (λ _. x ∷ B) (To M2 (length (after-kind z))) (λ g. DD)
-      (runs-claim z d x P M2 (x ∷ B) (spell-decls ds ++ rest) (f .0) (w .0) (ap (λ (k : ℕ). drop k s) a2 ∙ e1)))))))
-      (subst (λ (k : ℕ). Runs Γ env cap room m M1 (enter (own k unknown)) B (λ _. B) (λ r v. Came (P + 1) P r v)) (sym (at-placed z P (w .0))) (owned-runs m B (omega arith)))
+      (runs-if Γ env cap room M2 D (claimOf s env (opening z (P + 1)) x P M2) (claim Γ z x) (x ∷ B) (λ _. x ∷ B) (To M2 (length (after-kind z))) (λ g. DD)
+      (runs-claim z d x P (P + 1) M2 (x ∷ B) (spell-decls ds ++ rest) (f .0) (w .0) (ap (λ (k : ℕ). drop k s) a2 ∙ e1)))))))
+      (subst (λ (k : ℕ). Runs Γ env cap room m M1 (enter (own k unknown)) B (λ _. B) (λ r v. Came (P + 1) P r v)) (sym (at-placed z P (w .0))) (owned-runs m B))

@@ -387,7 +387,7 @@ module _ (Γ : Env) (env : List ℕ) (cap room : ℕ) (wide : cap ≤ 32768) (br
           let e0 : drop (m0 .st .at .0) env ≡ spell t ++ entry .1 = ap (λ (k : ℕ). drop k env) at0 ∙ entry .3 in
           first-met m1 m3 (lift t) (entry .0 + length (spell t))
           (runs-after Γ env cap room m m0 m1 (entry .0) (m .st .from .0) (m .st .last .0) (lift t) B (λ _. B) _ (λ g. z)
-          (λ g. runs-map Γ env cap room m0 m1 (lift t) B (λ _. B) _ _ (λ r y. (y .0 ∙ ap (λ (k : ℕ). k + length (spell t)) at0, y .1 ∙ from0, y .2)) (runs-lift Γ env cap room wide env brief B t 65 m0 (entry .1) (entry .4) e0)))
+          (λ g. runs-map Γ env cap room m0 m1 (lift t) B (λ _. B) _ _ (λ r y. (y .0 ∙ ap (λ (k : ℕ). k + length (spell t)) at0, y .1 ∙ from0, y .2)) (runs-lift Γ env cap room wide env brief B t 65 m0 (entry .1) (entry .4) (entry .5) e0)))
           (lift-row t (b .count) row)
           (λ k. ap (λ (y : Mach). y .st .stop) (ap Back (still-remember x m1 k) ∙ ap (λ (v : State). withSt v m1) (still-placed (m .st .at .0) (m1 .st) k)))
           (λ c s1 o1 q. ext-holds m1 (lift t (b .count) row .result) (entry .0 + length (spell t)) t new h c s1 o1 q)

@@ -8,7 +8,8 @@ use mathlib.Core.Bool.{Bool, true, false}
 use mathlib.Core.List.{List, [], _∷_, _++_}
 use lib.ListN.{length, getD, take, drop}
 use Rattle.meter.specs.Meter.{Out, spent, halt, done, broken, full}
-use Rattle.types.specs.Ty.{spell, depth}
+use Rattle.types.specs.Ty.{spell, depth, Below}
+use Rattle.types.specs.Limits.{max-names}
 use Rattle.formula.specs.Environment.{Entry, lacks, holds, Env}
 use Rattle.unification.specs.Arena.{U}
 use Rattle.unification.specs.Ops.{Bench, Ready, Sound, nodes, exec}
@@ -51,7 +52,7 @@ module _ (Γ : Env) (env : List ℕ) (cap room : ℕ) where
   -- an environment's entry by its name: where its type stands, plus 1
   abbrev pub Entered : List ℕ → ℕ → Entry → Type 0
   Entered book x lacks = getD book (cell 3392 1 x 0) 0 ≡ 0
-  Entered book x (holds t) = (p : ℕ) × (rest : List ℕ) × (getD book (cell 3392 1 x 0) 0 ≡ suc p) × (drop p env ≡ spell t ++ rest) × (depth t < 65)
+  Entered book x (holds t) = (p : ℕ) × (rest : List ℕ) × (getD book (cell 3392 1 x 0) 0 ≡ suc p) × (drop p env ≡ spell t ++ rest) × (depth t < 65) × Below max-names t
 
   -- the row of the names that the environment lacks, as they will be tested, from entry j on
   abbrev pub Listed : List ℕ → ℕ → List Question → Type 0

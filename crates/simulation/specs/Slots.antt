@@ -74,7 +74,7 @@ module _ (Γ : Env) (env : List ℕ) (cap room : ℕ) where
 
   pub entered-kept : (c d : List ℕ) (x : ℕ) → getD d (cell 3392 1 x 0) 0 ≡ getD c (cell 3392 1 x 0) 0 → (f : Entry) → Entered Γ env cap room c x f → Entered Γ env cap room d x f
   entered-kept c d x e lacks h = e ∙ h
-  entered-kept c d x e (holds t) h = (h .0, h .1, e ∙ h .2, h .3, h .4)
+  entered-kept c d x e (holds t) h = (h .0, h .1, e ∙ h .2, h .3, h .4, h .5)
 
   pub filled-kept : (c d : List ℕ) (k : ℕ) (ss : List (ℕ × ℕ)) → ((i : ℕ) → 2 * k ≤ i → i < 2 * (k + length ss) → getD d i 0 ≡ getD c i 0) → Filled Γ env cap room c k ss → Filled Γ env cap room d k ss
   filled-kept c d k [] e h = tt

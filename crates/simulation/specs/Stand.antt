@@ -1,13 +1,13 @@
 -- Steps that only move the walk: the place it stands at, the expression it comes from, the last reference.
 -- After this file such a step runs the empty piece, and a step may be replaced by what it is while the walk goes on.
-use Prim.Native.Nat.{ℕ, _+_, _<_}
+use Prim.Native.Nat.{ℕ, _≤_}
 use mathlib.Core.Path.{_≡_, refl, sym, _∙_, ap, subst}
 use mathlib.Core.Bool.{Bool, true, false}
 use mathlib.Core.List.{List, []}
 use native.Mathlib.Omega.{arith}
 use lib.ListN.{length, getD}
-use lib.Dec.{eqb, ltb}
-use borrow.Author.Tests.{lt-ltb, eq-eqb}
+use lib.Dec.{eqb, leb}
+use borrow.Author.Tests.{le-leb, eq-eqb}
 use Rattle.meter.specs.Meter.{Out, spent, halt, broken, full}
 use Rattle.meter.specs.Meter as Mt
 use Rattle.unification.specs.Arena.{U}
@@ -18,7 +18,7 @@ use Rattle.walk.specs.Writer.{Row, find, Walk, W, done}
 use Rattle.inference.specs.Finish.{names}
 use Rattle.machine.specs.declared.State.{State}
 use Rattle.machine.specs.Forms.{test}
-use Rattle.machine.specs.Machine.{Mach, withSt, movedOf, placedOf, gaveOf, arrivedOf}
+use Rattle.machine.specs.Machine.{Mach, withSt, placedOf, passedOf, gaveOf}
 use Rattle.simulation.specs.Relation.{Stands, Noted, Listed, Opened, Entered, Books, Slots, Ended, Runs}
 
 -- the state with another place, origin and last reference
@@ -36,13 +36,13 @@ unfolding test
 test-no c x y e = rw e refl
 
 -- the moves of a walk that goes on
-pub moved-eq : (n : ℕ) (v : State) → v .stop ≡ 0 → v .at .0 < 65536 → movedOf n v ≡ standing (v .at .0 + n) (v .from .0) (v .last .0) v
-unfolding movedOf
-moved-eq n v e l = test-yes (eqb (v .stop) 0) _ _ (eq-eqb (v .stop) 0 e) ∙ test-yes (ltb (v .at .0) 65536) _ _ (lt-ltb (v .at .0) 65536 l)
-
 pub placed-eq : (p : ℕ) (v : State) → v .stop ≡ 0 → placedOf p v ≡ standing p (v .from .0) (v .last .0) v
 unfolding placedOf
 placed-eq p v e = test-yes (eqb (v .stop) 0) _ _ (eq-eqb (v .stop) 0 e)
+
+pub passed-eq : (e : ℕ) (v : State) → v .stop ≡ 0 → e ≤ 65536 → passedOf e v ≡ standing e (v .from .0) (v .last .0) v
+unfolding passedOf
+passed-eq e v g l = test-yes (leb e 65536) _ _ (le-leb e 65536 l) ∙ placed-eq e v g
 
 pub gave-eq : (r : ℕ) (v : State) → v .stop ≡ 0 → gaveOf r v ≡ standing (v .at .0) (v .from .0) r v
 unfolding gaveOf

@@ -4,14 +4,21 @@ use Prim.Native.Nat.{ℕ, zero, suc, _+_, _-_, _/_, _%_}
 use mathlib.Core.Path.{_≡_, refl, _∙_, ap}
 use mathlib.Core.Bool.{Bool, true, false}
 use mathlib.Core.List.{List}
-use lib.Dec.{eqb, ltb}
+use lib.Dec.{eqb, ltb, leb}
 use borrow.Author.Tests.{ne-eqb}
+use Rattle.heads.specs.declared.Byte.{Byte}
+use Rattle.heads.specs.declared.Byte.the-variants.{Missing, Of}
+use Rattle.heads.specs.declared.DeclHead.{DeclHead}
+use Rattle.heads.specs.declared.DeclHead.the-variants.{Plain, Typed, Annotated}
+use Rattle.heads.specs.declared.DeclAt.{DeclAt}
+use Rattle.heads.specs.declared.DeclAt.the-variants.{Wrong, Is}
+use Rattle.heads.specs.Heads.{reach, byteAt, declHead, declEnd}
 use Rattle.machine.specs.declared.State.{State}
 use Rattle.machine.specs.declared.Item.{Item}
 use Rattle.machine.specs.declared.Parts.{Parts}
 use Rattle.machine.specs.Forms.{test, then}
-use Rattle.machine.specs.Machine.{Mach, withSt, byteAt, stoppedOf, movedOf, placedOf, gaveOf, boundOf, paidOf, enterOf, emitOf, twoOf, fourOf, listOf, makeOf, expectOf, leaveOf, rememberOf, enrolOf, pushBoundOf}
-use Rattle.machine.specs.Types.{skipOf, liftOf, freeOf, boundIdentifierOf, noteOf, notesOf, meetsOf, spelledOf, ascriptionOf, claimOf, declarationOf, timesOf, declareOf}
+use Rattle.machine.specs.Machine.{Mach, withSt, stoppedOf, placedOf, passedOf, gaveOf, boundOf, paidOf, enterOf, emitOf, twoOf, fourOf, listOf, makeOf, expectOf, leaveOf, rememberOf, enrolOf, pushBoundOf}
+use Rattle.machine.specs.Types.{skipOf, liftOf, freeOf, boundIdentifierOf, noteOf, notesOf, meetsOf, spelledOf, ascriptionBy, ascriptionOf, annotationBy, claimOf, declarationBy, declarationOf, timesOf, declareOf}
 use Rattle.machine.specs.Scripts.{scriptAt, itemAt, chosenOf, itemOf, itemsOf, playOf}
 use Rattle.simulation.specs.Stand.{test-no}
 
@@ -29,13 +36,13 @@ pub still-stopped : (n : ℕ) (v : State) → Stopped v → stoppedOf n v ≡ v
 unfolding stoppedOf
 still-stopped n v h = test-no (eqb (v .stop) 0) _ _ (ne-eqb (v .stop) 0 h)
 
-pub still-moved : (n : ℕ) (v : State) → Stopped v → movedOf n v ≡ v
-unfolding movedOf
-still-moved n v h = test-no (eqb (v .stop) 0) _ _ (ne-eqb (v .stop) 0 h)
-
 pub still-placed : (n : ℕ) (v : State) → Stopped v → placedOf n v ≡ v
 unfolding placedOf
 still-placed n v h = test-no (eqb (v .stop) 0) _ _ (ne-eqb (v .stop) 0 h)
+
+pub still-passed : (n : ℕ) (v : State) → Stopped v → passedOf n v ≡ v
+unfolding passedOf
+still-passed n v h = test-both (leb n 65536) _ _ v (still-placed n v h) (still-stopped 2 v h)
 
 pub still-gave : (n : ℕ) (v : State) → Stopped v → gaveOf n v ≡ v
 unfolding gaveOf
@@ -137,30 +144,44 @@ still-spelled s env x q p m h =
     ap (λ (a : Mach). meetsOf s x p (withSt (placedOf (m .st .at .0) (a .st)) a)) (still-notes 65 s env q m h)
     ∙ ap (λ (v : State). meetsOf s x p (withSt v m)) (still-placed (m .st .at .0) (m .st) h) ∙ still-meets s x p m h
 
-pub still-ascription : (s env : List ℕ) (x p : ℕ) (m : Mach) → Halted m → ascriptionOf s env x p m ≡ m
-unfolding ascriptionOf then
-still-ascription s env x p m h =
-    test-both (eqb (byteAt s (m .st .at .0) 0) 0x4F) _ _ m
-    (ap (λ (a : Mach). withSt (movedOf 1 (a .st)) a) (still-list 0 (m .st .at .0) 0xFFFF m h) ∙ still-within (movedOf 1) m (still-moved 1 (m .st) h))
+still-asked : (s env : List ℕ) (x p : ℕ) (b : Byte) (m : Mach) → Halted m → ascriptionBy s env x p b m ≡ m
+unfolding ascriptionBy then
+still-asked s env x p Missing m h = still-within (stoppedOf 2) m (still-stopped 2 (m .st) h)
+still-asked s env x p (Of k e) m h =
+    test-both (eqb k 0x4F) _ _ m
+    (ap (λ (a : Mach). withSt (placedOf (e .0) (a .st)) a) (still-list 0 (m .st .at .0) 0xFFFF m h) ∙ still-within (placedOf (e .0)) m (still-placed (e .0) (m .st) h))
     (still-spelled s env x (m .st .at .0) p m h)
 
-pub still-claim : (s env : List ℕ) (k x p : ℕ) (m : Mach) → Halted m → claimOf s env k x p m ≡ m
-unfolding claimOf then
-still-claim s env k x p m h =
-    test-both (eqb k 0x10) _ _ m refl
-    (test-both (eqb k 0x11) _ _ m (still-meets s x p m h)
-    (test-both (eqb (byteAt s (m .st .at .0) 0) 0x4F) _ _ m (still-within (movedOf 1) m (still-moved 1 (m .st) h)) (still-spelled s env x p p m h)))
+pub still-ascription : (s env : List ℕ) (x p : ℕ) (m : Mach) → Halted m → ascriptionOf s env x p m ≡ m
+unfolding ascriptionOf then
+still-ascription s env x p m h = still-asked s env x p (byteAt (reach s) (m .st .at)) m h
 
-pub still-declaration : (s env : List ℕ) (m : Mach) → Halted m → declarationOf s env m ≡ m
-unfolding declarationOf then
-still-declaration s env m h =
-    let k : ℕ = byteAt s (m .st .at .0) 0 in
-    ap (λ (v : State). (let b = makeOf 0x4E 0 0 (withSt (movedOf 1 v) m) in claimOf s env k (b .st .last .0) (m .st .at .0) (pushBoundOf (leaveOf (m .st .slots) (m .st .at .0) b)))) (still-enter (m .st) h)
-    ∙ ap (λ (v : State). (let b = makeOf 0x4E 0 0 (withSt v m) in claimOf s env k (b .st .last .0) (m .st .at .0) (pushBoundOf (leaveOf (m .st .slots) (m .st .at .0) b)))) (still-moved 1 (m .st) h)
+still-annotation : (s env : List ℕ) (x p : ℕ) (b : Byte) (m : Mach) → Halted m → annotationBy s env x p b m ≡ m
+unfolding annotationBy then
+still-annotation s env x p Missing m h = still-within (stoppedOf 2) m (still-stopped 2 (m .st) h)
+still-annotation s env x p (Of k e) m h = test-both (eqb k 0x4F) _ _ m (still-within (placedOf (e .0)) m (still-placed (e .0) (m .st) h)) (still-spelled s env x p p m h)
+
+pub still-claim : (s env : List ℕ) (k : DeclHead) (x p : ℕ) (m : Mach) → Halted m → claimOf s env k x p m ≡ m
+unfolding claimOf then
+still-claim s env (Plain e) x p m h = refl
+still-claim s env (Typed e) x p m h = still-meets s x p m h
+still-claim s env (Annotated e) x p m h = still-annotation s env x p (byteAt (reach s) (m .st .at)) m h
+
+still-headed : (s env : List ℕ) (k : DeclAt) (m : Mach) → Halted m → declarationBy s env k m ≡ m
+unfolding declarationBy then
+still-headed s env Wrong m h = still-within (stoppedOf 2) m (still-stopped 2 (m .st) h)
+still-headed s env (Is k) m h =
+    let q : ℕ = declEnd k .0 in
+    ap (λ (v : State). (let b = makeOf 0x4E 0 0 (withSt (placedOf q v) m) in claimOf s env k (b .st .last .0) (m .st .at .0) (pushBoundOf (leaveOf (m .st .slots) (m .st .at .0) b)))) (still-enter (m .st) h)
+    ∙ ap (λ (v : State). (let b = makeOf 0x4E 0 0 (withSt v m) in claimOf s env k (b .st .last .0) (m .st .at .0) (pushBoundOf (leaveOf (m .st .slots) (m .st .at .0) b)))) (still-placed q (m .st) h)
     ∙ ap (λ (b : Mach). claimOf s env k (b .st .last .0) (m .st .at .0) (pushBoundOf (leaveOf (m .st .slots) (m .st .at .0) b))) (still-make 0x4E 0 0 m h)
     ∙ ap (λ (b : Mach). claimOf s env k (m .st .last .0) (m .st .at .0) (pushBoundOf b)) (still-leave (m .st .slots) (m .st .at .0) m h)
     ∙ ap (λ (b : Mach). claimOf s env k (m .st .last .0) (m .st .at .0) b) (still-push m h)
     ∙ still-claim s env k (m .st .last .0) (m .st .at .0) m h
+
+pub still-declaration : (s env : List ℕ) (m : Mach) → Halted m → declarationOf s env m ≡ m
+unfolding declarationOf then
+still-declaration s env m h = still-headed s env (declHead (reach s) (m .st .at)) m h
 
 pub still-times : (f : Mach → Mach) (m : Mach) → f m ≡ m → (n : ℕ) → timesOf f n m ≡ m
 unfolding timesOf
