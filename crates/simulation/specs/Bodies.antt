@@ -268,8 +268,8 @@ module _ (Γ : Env) (env : List ℕ) (cap room : ℕ) (wide : cap ≤ 32768) (br
         let Q : ℕ → Mach → Type 0 = (λ x v. Came N (place a) x v) in
         let back : Mach → Mach = (λ (y : Mach). withSt (gaveOf (A1 .st .last .0) (placedOf (A1 .st .at .0) (y .st))) y) in
         let past : m .st .stop ≡ 0 → m1 ≡ withSt (standing (p + 1 + length (T.spell t)) (m .st .from .0) (m .st .last .0) (m .st)) m =
-            (λ g. ap (λ (v : State). withSt (skipOf levels s v) m) (placed-eq (p + 1) (m .st) g)
-            ∙ ap (λ (v : State). withSt v m) (skip-eq s short t levels (standing (p + 1) (m .st .from .0) (m .st .last .0) (m .st)) rest (fits-deep most d t fits) (fits-below most d t few fits) g e)) in
+        (λ g. ap (λ (v : State). withSt (skipOf levels s v) m) (placed-eq (p + 1) (m .st) g)
+        ∙ ap (λ (v : State). withSt v m) (skip-eq s short t levels (standing (p + 1) (m .st .from .0) (m .st .last .0) (m .st)) rest (fits-deep most d t fits) (fits-below most d t few fits) g e)) in
         runs-after Γ env cap room m m1 F (p + 1 + length (T.spell t)) (m .st .from .0) (m .st .last .0) (walk Γ a B >>= w) B (λ _. B) Q past
         (λ g. (
         let m1at : m1 .st .at .0 ≡ p + 1 + size-ty t = ap (λ (x : Mach). x .st .at .0) (past g) ∙ omega arith in
