@@ -43,7 +43,7 @@ use Rattle.simulation.specs.Steps.{runs-given, runs-after}
 use Rattle.simulation.specs.Nodes.{Came, Gave, Stood, runs-make}
 use Rattle.simulation.specs.Names.{runs-free, runs-identifier}
 use Rattle.simulation.specs.Stream.{skip-eq, runs-meets}
-use Rattle.simulation.specs.Decls.{fits-deep, runs-ascription, runs-declare}
+use Rattle.simulation.specs.Decls.{fits-deep, fits-below, runs-ascription, runs-declare}
 use Rattle.simulation.specs.Perform.{atomic-tied, binary-tied, unary-tied, quantified-tied, associative-planned, three-chosen, three-placed, runs-perform}
 use Rattle.simulation.specs.Shapes.{Goes, runs-one, runs-two, parts-base}
 use Rattle.simulation.specs.Children.{AllGo}
@@ -269,8 +269,8 @@ module _ (Γ : Env) (env : List ℕ) (cap room : ℕ) (wide : cap ≤ 32768) (br
         let Q : ℕ → Mach → Type 0 = (λ x v. Came N (place a) x v) in
         let back : Mach → Mach = (λ (y : Mach). withSt (gaveOf (A1 .st .last .0) (placedOf (A1 .st .at .0) (y .st))) y) in
         let past : m .st .stop ≡ 0 → m1 ≡ withSt (standing (p + 1 + length (T.spell t)) (m .st .from .0) (m .st .last .0) (m .st)) m =
-            (λ g. ap (λ (v : State). withSt (skipOf levels s v) m) (placed-eq (p + 1) (m .st) g)
-            ∙ ap (λ (v : State). withSt v m) (skip-eq s short t levels (standing (p + 1) (m .st .from .0) (m .st .last .0) (m .st)) rest (fits-deep most d t fits) g e)) in
+        (λ g. ap (λ (v : State). withSt (skipOf levels s v) m) (placed-eq (p + 1) (m .st) g)
+        ∙ ap (λ (v : State). withSt v m) (skip-eq s short t levels (standing (p + 1) (m .st .from .0) (m .st .last .0) (m .st)) rest (fits-deep most d t fits) (fits-below most d t few fits) g e)) in
         runs-after Γ env cap room m m1 F (p + 1 + length (T.spell t)) (m .st .from .0) (m .st .last .0) (walk Γ a B >>= w) B (λ _. B) Q past
         (λ g. (
         let m1at : m1 .st .at .0 ≡ p + 1 + size-ty t = ap (λ (x : Mach). x .st .at .0) (past g) ∙ omega arith in
@@ -294,5 +294,5 @@ module _ (Γ : Env) (env : List ℕ) (cap room : ℕ) (wide : cap ≤ 32768) (br
         (runs-stand Γ env cap room A3 (A1 .st .at .0) (A3 .st .from .0) (A1 .st .last .0) x B Q (k .0 ∙ omega arith, k2 .1 ∙ A2from, k .2)))
         (subst (λ (j : ℕ). Runs Γ env cap room A2 (meetsOf s j (A1 .st .from .0) A2) (meets Γ t x (place a)) B (λ _. B) (λ _ v. Stood {A = U} (A2 .st .at .0 + length (T.spell t)) (A2 .st .from .0) tt v)) (sym (k .2))
         (subst (λ (j : ℕ). Runs Γ env cap room A2 (meetsOf s x j A2) (meets Γ t x (place a)) B (λ _. B) (λ _ v. Stood {A = U} (A2 .st .at .0 + length (T.spell t)) (A2 .st .from .0) tt v)) (sym (k .1))
-        (runs-meets Γ env cap room wide brief s short B t x (place a) A2 rest (fits-deep most d t fits) (ap (λ (j : ℕ). drop j s) A2at ∙ e))))))))
+        (runs-meets Γ env cap room wide brief s short B t x (place a) A2 rest (fits-deep most d t fits) (fits-below most d t few fits) (ap (λ (j : ℕ). drop j s) A2at ∙ e))))))))
         (ga m1 m1at)))
