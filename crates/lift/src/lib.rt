@@ -1,9 +1,9 @@
 // A type record of a byte slice, lifted into the arena: its parts first, the left one first, then the node itself. Any bytes are taken: where no
 // type record stands, or one deeper than `left` levels, the answer is `Broken`. Nodes that were made before the capacity ended stand.
+use makers::Made;
 use types::Atom;
 use types::Head;
 use types::NodeRef;
-use makers::Made;
 ghost use mathlib.Core.Path.{_≡_};
 ghost use Rattle.types.specs.Code.{atomIs};
 ghost use Rattle.unification.specs.Arena.{leaf};

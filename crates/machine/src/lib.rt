@@ -3,13 +3,13 @@
 use heads::Byte;
 use heads::DeclAt;
 use heads::DeclHead;
+use makers::Made;
 use operators::Item;
 use types::Atom;
 use types::Head;
 use types::Name;
 use types::NodeRef;
 use types::Place;
-use makers::Made;
 use unifier::Told;
 use unifier::Unified;
 ghost use mathlib.Core.Path.{_≡_};

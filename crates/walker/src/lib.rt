@@ -7,8 +7,8 @@ use heads::ExprHead;
 use heads::PredAt;
 use heads::PredHead;
 use machine::Parts;
-use operators::Plan;
 use machine::State;
+use operators::Plan;
 use types::Name;
 use types::NodeRef;
 use types::Place;
@@ -157,7 +157,8 @@ fn body(
             machine::play(work, output, size, n, p, machine::placed(e, st))
         }
         ExprHead::Extension(n, e) => {
-            all(s, env, work, output, size, left, EXTENSION, n, machine::placed(e, st))
+            let a = machine::placed(e, st);
+            all(s, env, work, output, size, left, EXTENSION, n, a)
         }
         ExprHead::Truth(e) => {
             let a = pred(s, env, work, output, size, left, machine::placed(e, st));
@@ -165,15 +166,18 @@ fn body(
         }
         ExprHead::Binary(o, e) => {
             let n = operators::check_binary(o);
-            two(s, env, work, output, size, left, n, at, machine::placed(e, st))
+            let a = machine::placed(e, st);
+            two(s, env, work, output, size, left, n, at, a)
         }
         ExprHead::Associative(o, n, e) => {
             let plan = operators::check_associative(o);
-            all(s, env, work, output, size, left, plan, n, machine::placed(e, st))
+            let a = machine::placed(e, st);
+            all(s, env, work, output, size, left, plan, n, a)
         }
         ExprHead::Unary(o, e) => {
             let n = operators::check_unary(o);
-            one(s, env, work, output, size, left, n, at, machine::placed(e, st))
+            let a = machine::placed(e, st);
+            one(s, env, work, output, size, left, n, at, a)
         }
         ExprHead::Quantified(o, n, e) => quant(s, env, work, output, size, left, o, n, e, st),
         ExprHead::Ascribed(e) => ascribed(s, env, work, output, size, left, e, st),
@@ -397,7 +401,8 @@ fn pbody(
         PredHead::Variable(e) => machine::placed(e, st),
         PredHead::Relational(o, e) => {
             let n = operators::check_relational(o);
-            two(s, env, work, output, size, left, n, at, machine::placed(e, st))
+            let a = machine::placed(e, st);
+            two(s, env, work, output, size, left, n, at, a)
         }
         PredHead::Connective(e) => {
             preds(s, env, work, output, size, left, 2, machine::placed(e, st))
@@ -412,7 +417,8 @@ fn pbody(
             one(s, env, work, output, size, left, operators::FINITE, at, a)
         }
         PredHead::Multiple(n, e) => {
-            all(s, env, work, output, size, left, MULTIPLE, n, machine::placed(e, st))
+            let a = machine::placed(e, st);
+            all(s, env, work, output, size, left, MULTIPLE, n, a)
         }
         PredHead::Application(n, e) => {
             let a = machine::placed(e, st);

@@ -466,7 +466,7 @@ body-same-length-8 t c = omega (arith, c .before .before .before .before .all .k
 
 body-returns-5 : (t : ℕ) → body-lts.Need-returns-5 (body-env t) (body-at t) body.Post
 unfolding bodyBy
-body-returns-5 t c = by-body _ _ _ _ _ _ _ _ (c .before .before .before .before .before .before .before .before .before .h5 .given .1) (step _ _ _ _ (c .before .before .before .before .before .placed5 .ensures) (c .before .before .before .before .all .ensures))
+body-returns-5 t c = by-body _ _ _ _ _ _ _ _ (c .before .before .before .before .before .before .before .before .before .h5 .given .1) (step _ _ _ _ (c .before .before .before .before .before .before .before .placed5 .ensures) (c .before .before .before .before .all .ensures))
 
 body-same-length-9 : (t : ℕ) → body-lts.Need-same-length-9 (body-env t) (body-at t) body.Post
 body-same-length-9 t c = omega (arith, c .before .before .make2 .kept .0, c .before .before .before .before .before .before .before .before .pred .kept .1 .1 .0, c .before .before .before .before .before .before .before .before .pred .kept .1 .1 .1 .0)
@@ -486,7 +486,7 @@ body-same-length-12 t c = omega (arith, c .before .before .before .before .two .
 
 body-returns-7 : (t : ℕ) → body-lts.Need-returns-7 (body-env t) (body-at t) body.Post
 unfolding bodyBy
-body-returns-7 t c = by-body _ _ _ _ _ _ _ _ (c .before .before .before .before .before .before .before .before .before .before .h7 .given .1) (step _ _ _ _ (c .before .before .before .before .before .before .before .before .check-binary .ensures) (step _ _ _ _ (c .before .before .before .before .before .placed7 .ensures) (c .before .before .before .before .two .ensures)))
+body-returns-7 t c = by-body _ _ _ _ _ _ _ _ (c .before .before .before .before .before .before .before .before .before .before .h7 .given .1) (step _ _ _ _ (c .before .before .before .before .before .before .before .before .check-binary .ensures) (step _ _ _ _ (c .before .before .before .before .before .before .before .placed7 .ensures) (c .before .before .before .before .two .ensures)))
 
 body-same-length-13 : (t : ℕ) → body-lts.Need-same-length-13 (body-env t) (body-at t) body.Post
 body-same-length-13 t c = omega (arith, c .before .before .before .before .all2 .kept .1 .1 .0, c .before .before .before .before .all2 .kept .1 .1 .1 .0)
@@ -496,7 +496,7 @@ body-same-length-14 t c = omega (arith, c .before .before .before .before .all2 
 
 body-returns-8 : (t : ℕ) → body-lts.Need-returns-8 (body-env t) (body-at t) body.Post
 unfolding bodyBy
-body-returns-8 t c = by-body _ _ _ _ _ _ _ _ (c .before .before .before .before .before .before .before .before .before .before .h8 .given .1) (step _ _ _ _ (c .before .before .before .before .before .before .before .before .check-associative .ensures) (step _ _ _ _ (c .before .before .before .before .before .placed8 .ensures) (c .before .before .before .before .all2 .ensures)))
+body-returns-8 t c = by-body _ _ _ _ _ _ _ _ (c .before .before .before .before .before .before .before .before .before .before .h8 .given .1) (step _ _ _ _ (c .before .before .before .before .before .before .before .before .check-associative .ensures) (step _ _ _ _ (c .before .before .before .before .before .before .before .placed8 .ensures) (c .before .before .before .before .all2 .ensures)))
 
 body-same-length-15 : (t : ℕ) → body-lts.Need-same-length-15 (body-env t) (body-at t) body.Post
 body-same-length-15 t c = omega (arith, c .before .before .before .before .one .kept .1 .1 .0, c .before .before .before .before .one .kept .1 .1 .1 .0)
@@ -506,7 +506,7 @@ body-same-length-16 t c = omega (arith, c .before .before .before .before .one .
 
 body-returns-9 : (t : ℕ) → body-lts.Need-returns-9 (body-env t) (body-at t) body.Post
 unfolding bodyBy
-body-returns-9 t c = by-body _ _ _ _ _ _ _ _ (c .before .before .before .before .before .before .before .before .before .before .h9 .given .1) (step _ _ _ _ (c .before .before .before .before .before .before .before .before .check-unary .ensures) (step _ _ _ _ (c .before .before .before .before .before .placed9 .ensures) (c .before .before .before .before .one .ensures)))
+body-returns-9 t c = by-body _ _ _ _ _ _ _ _ (c .before .before .before .before .before .before .before .before .before .before .h9 .given .1) (step _ _ _ _ (c .before .before .before .before .before .before .before .before .check-unary .ensures) (step _ _ _ _ (c .before .before .before .before .before .before .before .placed9 .ensures) (c .before .before .before .before .one .ensures)))
 
 body-same-length-17 : (t : ℕ) → body-lts.Need-same-length-17 (body-env t) (body-at t) body.Post
 body-same-length-17 t c = omega (arith, c .before .before .before .before .quant .kept .1 .1 .0, c .before .before .before .before .quant .kept .1 .1 .1 .0)
@@ -823,7 +823,7 @@ pbody-same-length-2 t c = omega (arith, c .before .before .before .before .two .
 
 pbody-returns-3 : (t : ℕ) → pbody-lts.Need-returns-3 (pbody-env t) (pbody-at t) pbody.Post
 unfolding predBodyBy
-pbody-returns-3 t c = by-pred-body _ _ _ _ _ _ _ _ (c .before .before .before .before .before .before .before .before .before .before .h3 .given .1) (step _ _ _ _ (c .before .before .before .before .before .before .before .before .check-relational .ensures) (step _ _ _ _ (c .before .before .before .before .before .placed3 .ensures) (c .before .before .before .before .two .ensures)))
+pbody-returns-3 t c = by-pred-body _ _ _ _ _ _ _ _ (c .before .before .before .before .before .before .before .before .before .before .h3 .given .1) (step _ _ _ _ (c .before .before .before .before .before .before .before .before .check-relational .ensures) (step _ _ _ _ (c .before .before .before .before .before .before .before .placed3 .ensures) (c .before .before .before .before .two .ensures)))
 
 pbody-same-length-3 : (t : ℕ) → pbody-lts.Need-same-length-3 (pbody-env t) (pbody-at t) pbody.Post
 pbody-same-length-3 t c = omega (arith, c .before .before .before .before .preds .kept .1 .1 .0, c .before .before .before .before .preds .kept .1 .1 .1 .0)
@@ -883,7 +883,7 @@ pbody-same-length-14 t c = omega (arith, c .before .before .before .before .all 
 
 pbody-returns-9 : (t : ℕ) → pbody-lts.Need-returns-9 (pbody-env t) (pbody-at t) pbody.Post
 unfolding predBodyBy
-pbody-returns-9 t c = by-pred-body _ _ _ _ _ _ _ _ (c .before .before .before .before .before .before .before .before .before .h9 .given .1) (step _ _ _ _ (c .before .before .before .before .before .placed8 .ensures) (c .before .before .before .before .all .ensures))
+pbody-returns-9 t c = by-pred-body _ _ _ _ _ _ _ _ (c .before .before .before .before .before .before .before .before .before .h9 .given .1) (step _ _ _ _ (c .before .before .before .before .before .before .before .placed8 .ensures) (c .before .before .before .before .all .ensures))
 
 pbody-same-length-15 : (t : ℕ) → pbody-lts.Need-same-length-15 (pbody-env t) (pbody-at t) pbody.Post
 pbody-same-length-15 t c = omega (arith, c .before .before .list .kept .0, c .before .before .before .before .before .before .before .before .all2 .kept .1 .1 .0, c .before .before .before .before .before .before .before .before .all2 .kept .1 .1 .1 .0)
