@@ -5,12 +5,14 @@ use native.Mathlib.Decide.{decLe}
 use mathlib.Core.Path.{_≡_, sym, ap, _∙_}
 use mathlib.Core.List.{List}
 use lib.ListN.{length, getD, drop-of-length-le}
+use borrow.Author.Tests.{le-leb, lt-leb, lt-ltb, le-ltb}
 use lib.Seq.{drop-cons, take-all, length-take-le, getD-take}
 use Rattle.types.specs.declared.Place.{Place}
 use Rattle.heads.specs.declared.Byte.{Byte}
 use Rattle.heads.specs.declared.Byte.the-variants as B
 use Rattle.heads.specs.declared.Word.{Word}
-use Rattle.heads.specs.Heads.{place, reach, byteOf, byteAt, opAt, countAt}
+use Rattle.heads.specs.declared.Word.the-variants as W
+use Rattle.heads.specs.Heads.{place, reach, byteOf, byteAt, onByte, onWord, wordAt, nameAt, opAt, countAt, fewAt}
 
 -- a stream within reach is its own reach
 pub reach-all : (s : List ℕ) → length s ≤ 4294967295 → reach s ≡ s
@@ -42,6 +44,24 @@ module _ (s : List ℕ) (p : Place) where
   pub byte-beyond : 4294967295 ≤ p .0 → p .0 < length s → B.Missing ≡ byteAt (reach s) p
   unfolding reach
   byte-beyond l h = let e = length-take-le 4294967295 s (omega arith) in byte-out (reach s) p (omega arith)
+
+-- a count of declarations or targets, and a name, once their bytes are read
+module _ (s : List ℕ) (p : Place) (n : ℕ) (e : Place) where
+  pub few-some : byteAt s p ≡ B.Of n e → 1 ≤ n → B.Of n e ≡ fewAt s p
+  unfolding fewAt onByte
+  few-some h l = rw (h, le-leb 1 n l)
+
+  pub few-none : byteAt s p ≡ B.Of n e → n < 1 → B.Missing ≡ fewAt s p
+  unfolding fewAt onByte
+  few-none h l = rw (h, lt-leb 1 n l)
+
+  pub name-below : (names : ℕ) → wordAt s p ≡ W.Of n e → n < names → W.Of n e ≡ nameAt names s p
+  unfolding nameAt onWord
+  name-below names h l = rw (h, lt-ltb n names l)
+
+  pub name-past : (names : ℕ) → wordAt s p ≡ W.Of n e → names ≤ n → W.Missing ≡ nameAt names s p
+  unfolding nameAt onWord
+  name-past names h l = rw (h, le-ltb n names l)
 
 -- the code's limit is the definition's
 pub op-as : (limit m : ℕ) (s : List ℕ) (p : Place) (x : Byte) → opAt m s p ≡ x → m ≡ limit → opAt limit s p ≡ x

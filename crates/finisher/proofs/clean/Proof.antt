@@ -8,12 +8,10 @@ use Rattle.finisher.proofs.clean.Tie as tie
 use Rattle.finisher.proofs.clean.Reads as reads
 use Rattle.finisher.proofs.clean.Lts as lts
 
--- src/lib.rt:96:9
 returns : tie.Need-returns
 unfolding cleanOf
 returns c = yes-if _ _ _ _ (c .if1 .taken) refl
 
--- src/lib.rt:92:1
 returns-2 : tie.Need-returns-2
 unfolding cleanOf
 returns-2 c = no-if _ _ _ _ (c .before .if1 .left) refl

@@ -12,31 +12,24 @@ use Rattle.machine.proofs.emit.Reads as emit-reads
 use Rattle.machine.proofs.emit_two.Reads as emit-two-reads
 use Rattle.machine.proofs.read.Reads as read-reads
 
--- src/lib.rt:153:9
 read-requires : tie.Need-read-requires
 read-requires c κs = search needs
 
--- src/lib.rt:154:9
 read-requires-2 : tie.Need-read-requires-2
 read-requires-2 c κs = search needs
 
--- src/lib.rt:155:9
 emit-requires : tie.Need-emit-requires
 emit-requires c κs = search needs
 
--- src/lib.rt:156:9
 emit-two-requires : tie.Need-emit-two-requires
 emit-two-requires c κs = search needs
 
--- src/lib.rt:157:5
 spell-requires : tie.Need-spell-requires
 spell-requires c κs = search needs
 
--- src/lib.rt:150:1
 same-length : tie.Need-same-length
 same-length c = search needs
 
--- src/lib.rt:150:1
 returns : tie.Need-returns
 unfolding entryOf
 returns c = step _ _ _ _ (c .before .before .before .before .before .before .before .before .before .before .before .before .before .read .ensures) (step _ _ _ _ (c .before .before .before .before .before .before .before .before .before .before .before .before .read2 .ensures) (step _ _ _ _ (c .before .before .before .before .before .before .before .before .before .before .emit .ensures _ _) (step _ _ _ _ (c .before .before .before .before .before .before .emit-two .ensures _ _) (c .before .before .spell .ensures))))

@@ -11,32 +11,25 @@ use Rattle.finisher.proofs.clean.Reads as clean-reads
 use Rattle.finisher.proofs.test_names.Reads as test-names-reads
 use Rattle.finisher.proofs.test_slots.Reads as test-slots-reads
 
--- src/lib.rt:105:9
 test-names-requires : tie.Need-test-names-requires
 test-names-requires c κs = search needs
 
--- src/lib.rt:106:8
 clean-requires : tie.Need-clean-requires
 clean-requires c κs = search needs
 
--- src/lib.rt:107:9
 test-slots-requires : tie.Need-test-slots-requires
 test-slots-requires c κs = search needs
 
--- src/lib.rt:107:9
 same-length : tie.Need-same-length
 same-length c = search needs
 
--- src/lib.rt:107:9
 returns : tie.Need-returns
 unfolding finishOf
 returns c = step _ _ _ _ (c .before .before .before .before .before .before .before .before .test-names .ensures) (yes-if _ _ _ _ (sym (c .before .before .before .before .before .clean .ensures) ∙ c .before .before .before .before .if1 .taken) (c .before .before .test-slots .ensures))
 
--- src/lib.rt:102:1
 same-length-2 : tie.Need-same-length-2
 same-length-2 c = search needs
 
--- src/lib.rt:102:1
 returns-2 : tie.Need-returns-2
 unfolding finishOf
 returns-2 c = step _ _ _ _ (c .before .before .before .before .test-names .ensures) (no-if _ _ _ _ (sym (c .before .clean .ensures) ∙ c .if1 .left) refl)

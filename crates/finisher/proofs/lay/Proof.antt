@@ -17,23 +17,18 @@ use Rattle.finisher.proofs.lay.Lts as lts
 use Rattle.finisher.proofs.within.Reads as within-reads
 use Rattle.write.proofs.put.Reads as put-reads
 
--- src/lib.rt:126:9
 within-requires : tie.Need-within-requires
 within-requires c κs = search needs
 
--- src/lib.rt:127:16
 slice-aggregate-put : tie.Need-slice-aggregate-put
 slice-aggregate-put c = sym (length-take-le _ _ (c .before .within .ensures .1))
 
--- src/lib.rt:127:5
 put-requires : tie.Need-put-requires
 put-requires c κs = search needs
 
--- src/lib.rt:123:1
 same-length : tie.Need-same-length
 same-length c = search needs
 
--- src/lib.rt:123:1
 returns : tie.Need-returns
 returns c = c .before .before .put .ensures ∙ ap (λ (l : List ℕ). put l (c .before .before .before .before .before .before .before .before .args .count) (c .before .before .before .before .before .before .before .before .args .output .now, c .before .before .before .before .before .before .before .before .args .at, c .before .before .before .before .before .before .before .before .args .t .0) most) (lent (c .before .before .before .before .before .before .before .before .args .size) (c .before .before .before .before .before .within .result) (now (c .before .before .before .before .before .before .before .before .args .work)) (take (c .before .before .before .before .before .within .result) (now (c .before .before .before .before .before .before .before .before .args .work))) (c .before .before .before .before .before .within .ensures .0) refl .part)
 

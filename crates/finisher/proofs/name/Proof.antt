@@ -10,27 +10,21 @@ use Rattle.finisher.proofs.name.Lts as lts
 use Rattle.finisher.proofs.settle.Reads as settle-reads
 use Rattle.machine.proofs.read.Reads as read-reads
 
--- src/lib.rt:48:9
 read-requires : tie.Need-read-requires
 read-requires c κs = search needs
 
--- src/lib.rt:49:9
 read-requires-2 : tie.Need-read-requires-2
 read-requires-2 c κs = search needs
 
--- src/lib.rt:50:9
 read-requires-3 : tie.Need-read-requires-3
 read-requires-3 c κs = search needs
 
--- src/lib.rt:51:5
 settle-requires : tie.Need-settle-requires
 settle-requires c κs = search needs
 
--- src/lib.rt:45:1
 same-length : tie.Need-same-length
 same-length c = search needs
 
--- src/lib.rt:45:1
 returns : tie.Need-returns
 unfolding nameOf
 returns c = step _ _ _ _ (c .before .before .before .before .before .before .read .ensures) (step _ _ _ _ (c .before .before .before .before .before .read2 .ensures) (step _ _ _ _ (c .before .before .before .before .read3 .ensures) (c .before .before .settle .ensures)))

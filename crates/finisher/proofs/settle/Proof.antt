@@ -15,71 +15,55 @@ use Rattle.machine.proofs.list.Reads as list-reads
 use Rattle.machine.proofs.solved.Reads as solved-reads
 use Rattle.machine.proofs.stopped.Reads as stopped-reads
 
--- src/lib.rt:33:9
 returns : tie.Need-returns
 unfolding settleOf
 returns c = no-eq _ _ _ _ _ (c .if1 .taken) refl
 
--- src/lib.rt:35:9
 solved-requires : tie.Need-solved-requires
 solved-requires c κs = search needs
 
--- src/lib.rt:37:19
 enum-known-found : tie.Need-enum-known-found
 enum-known-found c = search needs
 
--- src/lib.rt:37:28
 left-with-requires : tie.Need-left-with-requires
 left-with-requires c κs = search needs
 
--- src/lib.rt:38:18
 enum-known-found-2 : tie.Need-enum-known-found-2
 enum-known-found-2 c = search needs
 
--- src/lib.rt:38:71
 left-with-requires-2 : tie.Need-left-with-requires-2
 left-with-requires-2 c κs = search needs
 
--- src/lib.rt:38:27
 list-requires : tie.Need-list-requires
 list-requires c κs = search needs
 
--- src/lib.rt:39:24
 enum-told : tie.Need-enum-told
 enum-told c = search needs
 
--- src/lib.rt:39:24
 stopped-requires : tie.Need-stopped-requires
 stopped-requires c κs = search needs
 
--- src/lib.rt:40:25
 enum-told-2 : tie.Need-enum-told-2
 enum-told-2 c = search needs
 
--- src/lib.rt:40:25
 stopped-requires-2 : tie.Need-stopped-requires-2
 stopped-requires-2 c κs = search needs
 
--- src/lib.rt:20:1
 returns-2 : tie.Need-returns-2
 unfolding settleOf
 returns-2 c = yes-eq _ _ _ _ _ (c .before .before .before .before .before .if1 .left) (told-yes (c .before .before .before .before .before .before .before .before .before .args .size) (c .before .before .before .before .before .before .before .before .before .args .st) (c .left-with .result) (now (c .before .before .before .before .before .before .before .before .before .args .work)) (c .before .before .before .before .before .before .before .before .before .args .output .now) _ _ _ _ _ (ap told (sym (c .before .before .found .given .1)) ∙ c .before .before .before .before .solved .ensures) (c .left-with .ensures))
 
--- src/lib.rt:20:1
 same-length : tie.Need-same-length
 same-length c = search needs
 
--- src/lib.rt:20:1
 returns-3 : tie.Need-returns-3
 unfolding settleOf
 returns-3 c = yes-eq _ _ _ _ _ (c .before .before .before .before .before .before .before .before .before .if1 .left) (told-no (c .before .before .before .before .before .before .before .before .before .before .before .before .before .args .size) (c .before .before .before .before .before .before .before .before .before .before .before .before .before .args .st) (c .before .before .before .left-with2 .result) (now (c .before .before .before .before .before .before .before .before .before .before .before .before .before .args .work)) (c .before .before .before .before .before .before .before .before .before .before .before .before .before .args .output .now) (c .before .before .list .result) (c .before .before .list .last .0) _ _ _ _ _ (ap told (sym (c .before .before .before .before .before .before .found2 .given .1)) ∙ c .before .before .before .before .before .before .before .before .solved .ensures) (c .before .before .before .left-with2 .ensures) (c .before .before .list .ensures _ _))
 
--- src/lib.rt:20:1
 returns-4 : tie.Need-returns-4
 unfolding settleOf
 returns-4 c = yes-eq _ _ _ _ _ (c .before .before .before .before .if1 .left) (told-spent (c .before .before .before .before .before .before .before .before .args .size) (c .before .before .before .before .before .before .before .before .args .st) (c .stopped .result) (now (c .before .before .before .before .before .before .before .before .args .work)) (c .before .before .before .before .before .before .before .before .args .output .now) _ _ _ _ (ap told (sym (c .before .enum-told .given .1)) ∙ c .before .before .before .solved .ensures) (c .stopped .ensures))
 
--- src/lib.rt:20:1
 returns-5 : tie.Need-returns-5
 unfolding settleOf
 returns-5 c = yes-eq _ _ _ _ _ (c .before .before .before .before .if1 .left) (told-broken (c .before .before .before .before .before .before .before .before .args .size) (c .before .before .before .before .before .before .before .before .args .st) (c .stopped2 .result) (now (c .before .before .before .before .before .before .before .before .args .work)) (c .before .before .before .before .before .before .before .before .args .output .now) _ _ _ _ (ap told (sym (c .before .enum-told2 .given .1)) ∙ c .before .before .before .solved .ensures) (c .stopped2 .ensures))

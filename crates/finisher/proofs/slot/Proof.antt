@@ -10,23 +10,18 @@ use Rattle.finisher.proofs.slot.Lts as lts
 use Rattle.finisher.proofs.settle.Reads as settle-reads
 use Rattle.machine.proofs.read.Reads as read-reads
 
--- src/lib.rt:58:9
 read-requires : tie.Need-read-requires
 read-requires c κs = search needs
 
--- src/lib.rt:59:9
 read-requires-2 : tie.Need-read-requires-2
 read-requires-2 c κs = search needs
 
--- src/lib.rt:60:5
 settle-requires : tie.Need-settle-requires
 settle-requires c κs = search needs
 
--- src/lib.rt:55:1
 same-length : tie.Need-same-length
 same-length c = search needs
 
--- src/lib.rt:55:1
 returns : tie.Need-returns
 unfolding slotOf
 returns c = step _ _ _ _ (c .before .before .before .before .before .read .ensures) (step _ _ _ _ (c .before .before .before .before .read2 .ensures) (c .before .before .settle .ensures))

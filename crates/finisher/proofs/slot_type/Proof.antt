@@ -12,31 +12,24 @@ use Rattle.machine.proofs.emit.Reads as emit-reads
 use Rattle.machine.proofs.emit_four.Reads as emit-four-reads
 use Rattle.machine.proofs.read.Reads as read-reads
 
--- src/lib.rt:164:9
 read-requires : tie.Need-read-requires
 read-requires c κs = search needs
 
--- src/lib.rt:165:9
 read-requires-2 : tie.Need-read-requires-2
 read-requires-2 c κs = search needs
 
--- src/lib.rt:166:9
 emit-requires : tie.Need-emit-requires
 emit-requires c κs = search needs
 
--- src/lib.rt:167:9
 emit-four-requires : tie.Need-emit-four-requires
 emit-four-requires c κs = search needs
 
--- src/lib.rt:168:5
 spell-requires : tie.Need-spell-requires
 spell-requires c κs = search needs
 
--- src/lib.rt:161:1
 same-length : tie.Need-same-length
 same-length c = search needs
 
--- src/lib.rt:161:1
 returns : tie.Need-returns
 unfolding typeOf
 returns c = step _ _ _ _ (c .before .before .before .before .before .before .before .before .before .before .before .before .before .read .ensures) (step _ _ _ _ (c .before .before .before .before .before .before .before .before .before .before .before .before .read2 .ensures) (step _ _ _ _ (c .before .before .before .before .before .before .before .before .before .before .emit .ensures _ _) (step _ _ _ _ (c .before .before .before .before .before .before .emit-four .ensures _ _) (c .before .before .spell .ensures))))

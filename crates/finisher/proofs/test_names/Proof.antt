@@ -19,31 +19,24 @@ Inv-loop work output₀ size st v₀ j₀ output v j = (eachOf nameOf (st .met -
 abbrev μ-loop : tie.MeasureT-loop
 μ-loop work output₀ size st v₀ j₀ output v j = st .met - j
 
--- src/lib.rt:69:5
 loop-holds : tie.Need-loop-holds Inv-loop μ-loop
 loop-holds c = (refl, refl)
 
--- src/lib.rt:70:9
 name-requires : tie.Need-name-requires Inv-loop μ-loop
 name-requires c κs = search needs
 
--- src/lib.rt:71:9
 add-j : tie.Need-add-j Inv-loop μ-loop
 add-j c = search needs
 
--- src/lib.rt:69:5
 loop-less : tie.Need-loop-less Inv-loop μ-loop
 loop-less c = omega (arith, c .before .before .before .before .if1 .taken)
 
--- src/lib.rt:69:5
 loop-again : tie.Need-loop-again Inv-loop μ-loop
 loop-again c = (each-more nameOf _ _ _ _ _ (c .before .before .before .before .if1 .taken) (c .before .before .name .ensures) (c .before .before .before .before .before .before .loop .inv .0), omega (arith, c .before .before .name .kept .1 .0, c .before .before .before .before .before .before .loop .inv .1))
 
--- src/lib.rt:64:1
 same-length : tie.Need-same-length Inv-loop μ-loop
 same-length c = omega (arith, c .before .before .loop .inv .1)
 
--- src/lib.rt:64:1
 returns : tie.Need-returns Inv-loop μ-loop
 unfolding testNamesOf
 returns c = sym (each-none nameOf _ _ _ (c .if1 .left)) ∙ c .before .before .loop .inv .0 ∙ each-start nameOf _ _

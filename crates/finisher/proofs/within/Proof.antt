@@ -8,12 +8,10 @@ use Rattle.finisher.proofs.within.Tie as tie
 use Rattle.finisher.proofs.within.Reads as reads
 use Rattle.finisher.proofs.within.Lts as lts
 
--- src/lib.rt:114:1
 returns : tie.Need-returns
 unfolding smaller
 returns c = (yes-lt _ _ _ _ _ (c .if1 .taken) refl, omega (arith, c .if1 .taken))
 
--- src/lib.rt:114:1
 returns-2 : tie.Need-returns-2
 unfolding smaller
 returns-2 c = (no-lt _ _ _ _ _ (c .if1 .left) refl, omega (arith, c .if1 .left))

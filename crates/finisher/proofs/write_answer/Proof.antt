@@ -10,19 +10,15 @@ use Rattle.finisher.proofs.write_answer.Lts as lts
 use Rattle.finisher.proofs.write_names.Reads as write-names-reads
 use Rattle.finisher.proofs.write_slots.Reads as write-slots-reads
 
--- src/lib.rt:201:9
 write-names-requires : tie.Need-write-names-requires
 write-names-requires c κs = search needs
 
--- src/lib.rt:202:5
 write-slots-requires : tie.Need-write-slots-requires
 write-slots-requires c κs = search needs
 
--- src/lib.rt:198:1
 same-length : tie.Need-same-length
 same-length c = search needs
 
--- src/lib.rt:198:1
 returns : tie.Need-returns
 unfolding writeAnswerOf
 returns c = step _ _ _ _ (c .before .before .before .before .before .before .write-names .ensures) (c .before .before .write-slots .ensures)

@@ -19,31 +19,24 @@ Inv-loop work output₀ size st v₀ j₀ output v j = (eachOf entryOf (st .met 
 abbrev μ-loop : tie.MeasureT-loop
 μ-loop work output₀ size st v₀ j₀ output v j = st .met - j
 
--- src/lib.rt:174:5
 loop-holds : tie.Need-loop-holds Inv-loop μ-loop
 loop-holds c = (refl, refl)
 
--- src/lib.rt:175:9
 entry-requires : tie.Need-entry-requires Inv-loop μ-loop
 entry-requires c κs = search needs
 
--- src/lib.rt:176:9
 add-j : tie.Need-add-j Inv-loop μ-loop
 add-j c = search needs
 
--- src/lib.rt:174:5
 loop-less : tie.Need-loop-less Inv-loop μ-loop
 loop-less c = omega (arith, c .before .before .before .before .if1 .taken)
 
--- src/lib.rt:174:5
 loop-again : tie.Need-loop-again Inv-loop μ-loop
 loop-again c = (each-more entryOf _ _ _ _ _ (c .before .before .before .before .if1 .taken) (c .before .before .entry .ensures) (c .before .before .before .before .before .before .loop .inv .0), omega (arith, c .before .before .entry .kept .1 .0, c .before .before .before .before .before .before .loop .inv .1))
 
--- src/lib.rt:169:1
 same-length : tie.Need-same-length Inv-loop μ-loop
 same-length c = omega (arith, c .before .before .loop .inv .1)
 
--- src/lib.rt:169:1
 returns : tie.Need-returns Inv-loop μ-loop
 unfolding writeNamesOf
 returns c = sym (each-none entryOf _ _ _ (c .if1 .left)) ∙ c .before .before .loop .inv .0 ∙ each-start entryOf _ _

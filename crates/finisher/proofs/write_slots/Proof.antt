@@ -19,31 +19,24 @@ Inv-loop work output₀ size st v₀ j₀ output v j = (eachOf typeOf (st .slots
 abbrev μ-loop : tie.MeasureT-loop
 μ-loop work output₀ size st v₀ j₀ output v j = st .slots - j
 
--- src/lib.rt:186:5
 loop-holds : tie.Need-loop-holds Inv-loop μ-loop
 loop-holds c = (refl, refl)
 
--- src/lib.rt:187:9
 slot-type-requires : tie.Need-slot-type-requires Inv-loop μ-loop
 slot-type-requires c κs = search needs
 
--- src/lib.rt:188:9
 add-j : tie.Need-add-j Inv-loop μ-loop
 add-j c = search needs
 
--- src/lib.rt:186:5
 loop-less : tie.Need-loop-less Inv-loop μ-loop
 loop-less c = omega (arith, c .before .before .before .before .if1 .taken)
 
--- src/lib.rt:186:5
 loop-again : tie.Need-loop-again Inv-loop μ-loop
 loop-again c = (each-more typeOf _ _ _ _ _ (c .before .before .before .before .if1 .taken) (c .before .before .slot-type .ensures) (c .before .before .before .before .before .before .loop .inv .0), omega (arith, c .before .before .slot-type .kept .1 .0, c .before .before .before .before .before .before .loop .inv .1))
 
--- src/lib.rt:181:1
 same-length : tie.Need-same-length Inv-loop μ-loop
 same-length c = omega (arith, c .before .before .loop .inv .1)
 
--- src/lib.rt:181:1
 returns : tie.Need-returns Inv-loop μ-loop
 unfolding writeSlotsOf
 returns c = sym (each-none typeOf _ _ _ (c .if1 .left)) ∙ c .before .before .loop .inv .0 ∙ each-start typeOf _ _

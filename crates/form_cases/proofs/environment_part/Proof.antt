@@ -7,19 +7,15 @@ use Rattle.form_cases.proofs.environment_part.Reads as reads
 use Rattle.form_cases.proofs.environment_part.Lts as lts
 use Rattle.form_cases.proofs.environment_case.Reads as environment-case-reads
 
--- src/main.rt:55:26
 slice-aggregate-environment-case : tie.Need-slice-aggregate-environment-case
 slice-aggregate-environment-case c = sym (length-take-le _ _ (c .before .if1 .taken))
 
--- src/main.rt:55:9
 environment-case-requires : tie.Need-environment-case-requires
 environment-case-requires c κs = search needs
 
--- src/main.rt:53:1
 returns : tie.Need-returns
 returns c = search needs
 
--- src/main.rt:53:1
 returns-2 : tie.Need-returns-2
 returns-2 c = search needs
 

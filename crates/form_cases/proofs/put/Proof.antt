@@ -14,39 +14,30 @@ Inv-loop page₀ from to b i₀ page i = length page ≡ length page₀
 abbrev μ-loop : tie.MeasureT-loop
 μ-loop page₀ from to b i₀ page i = length page - i
 
--- src/main.rt:48:5
 loop-holds : tie.Need-loop-holds Inv-loop μ-loop
 loop-holds c = refl
 
--- src/main.rt:50:13
 same-length : tie.Need-same-length Inv-loop μ-loop
 same-length c = search needs
 
--- src/main.rt:50:13
 returns : tie.Need-returns Inv-loop μ-loop
 returns c = search needs
 
--- src/main.rt:52:9
 slice-write-page : tie.Need-slice-write-page Inv-loop μ-loop
 slice-write-page c = search needs
 
--- src/main.rt:53:9
 add-i : tie.Need-add-i Inv-loop μ-loop
 add-i c = search needs
 
--- src/main.rt:48:5
 loop-less : tie.Need-loop-less Inv-loop μ-loop
 loop-less c = simp length-set (omega arith)
 
--- src/main.rt:48:5
 loop-again : tie.Need-loop-again Inv-loop μ-loop
 loop-again c = simp length-set (search needs)
 
--- src/main.rt:46:1
 same-length-2 : tie.Need-same-length-2 Inv-loop μ-loop
 same-length-2 c = search needs
 
--- src/main.rt:46:1
 returns-2 : tie.Need-returns-2 Inv-loop μ-loop
 returns-2 c = search needs
 

@@ -16,79 +16,60 @@ Inv-loop page₀ n₀ page n = length page ≡ length page₀
 abbrev μ-loop : tie.MeasureT-loop
 μ-loop page₀ n₀ page n = 256 - n
 
--- src/main.rt:184:5
 put-requires : tie.Need-put-requires Inv-loop μ-loop
 put-requires c κs = search needs
 
--- src/main.rt:186:5
 loop-holds : tie.Need-loop-holds Inv-loop μ-loop
 loop-holds c = refl
 
--- src/main.rt:187:19
 mul-set : tie.Need-mul-set Inv-loop μ-loop
 mul-set c = search needs
 
--- src/main.rt:187:9
 set-requires : tie.Need-set-requires Inv-loop μ-loop
 set-requires c κs = search needs
 
--- src/main.rt:188:19
 mul-set-2 : tie.Need-mul-set-2 Inv-loop μ-loop
 mul-set-2 c = search needs
 
--- src/main.rt:188:19
 add-set : tie.Need-add-set Inv-loop μ-loop
 add-set c = search needs
 
--- src/main.rt:188:31
 cast-set : tie.Need-cast-set Inv-loop μ-loop
 cast-set c = search needs
 
--- src/main.rt:188:9
 set-requires-2 : tie.Need-set-requires-2 Inv-loop μ-loop
 set-requires-2 c κs = search needs
 
--- src/main.rt:189:19
 mul-set-3 : tie.Need-mul-set-3 Inv-loop μ-loop
 mul-set-3 c = search needs
 
--- src/main.rt:189:19
 add-set-2 : tie.Need-add-set-2 Inv-loop μ-loop
 add-set-2 c = search needs
 
--- src/main.rt:189:9
 set-requires-3 : tie.Need-set-requires-3 Inv-loop μ-loop
 set-requires-3 c κs = search needs
 
--- src/main.rt:190:19
 mul-set-4 : tie.Need-mul-set-4 Inv-loop μ-loop
 mul-set-4 c = search needs
 
--- src/main.rt:190:19
 add-set-3 : tie.Need-add-set-3 Inv-loop μ-loop
 add-set-3 c = search needs
 
--- src/main.rt:190:9
 set-requires-4 : tie.Need-set-requires-4 Inv-loop μ-loop
 set-requires-4 c κs = search needs
 
--- src/main.rt:191:9
 add-n : tie.Need-add-n Inv-loop μ-loop
 add-n c = search needs
 
--- src/main.rt:186:5
 loop-less : tie.Need-loop-less Inv-loop μ-loop
 loop-less c = omega arith
 
--- src/main.rt:186:5
 loop-again : tie.Need-loop-again Inv-loop μ-loop
 loop-again c = omega (arith, c .before .before .set4 .kept .0, c .before .before .before .before .before .before .set3 .kept .0, c .before .before .before .before .before .before .before .before .before .before .set2 .kept .0, c .before .before .before .before .before .before .before .before .before .before .before .before .before .before .set .kept .0, c .before .before .before .before .before .before .before .before .before .before .before .before .before .before .before .before .before .loop .inv)
 
--- src/main.rt:183:1
 same-length : tie.Need-same-length Inv-loop μ-loop
 same-length c = search needs
 
--- src/main.rt:183:1
 returns : tie.Need-returns Inv-loop μ-loop
 returns c = search needs
 

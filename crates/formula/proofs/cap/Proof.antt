@@ -7,12 +7,10 @@ use Rattle.formula.proofs.cap.Tie as tie
 use Rattle.formula.proofs.cap.Reads as reads
 use Rattle.formula.proofs.cap.Lts as lts
 
--- src/lib.rt:824:9
 returns : tie.Need-returns
 unfolding capped
 returns c = rw (lt-ltb _ _ (c .if1 .taken))
 
--- src/lib.rt:820:1
 returns-2 : tie.Need-returns-2
 unfolding capped
 returns-2 c = rw (le-ltb _ _ (c .if1 .left))

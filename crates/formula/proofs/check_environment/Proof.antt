@@ -10,23 +10,18 @@ use Rattle.formula.proofs.cap.Reads as cap-reads
 use Rattle.formula.proofs.read_entries.Reads as read-entries-reads
 use Rattle.formula.proofs.refused.Reads as refused-reads
 
--- src/lib.rt:932:9
 refused-requires : tie.Need-refused-requires
 refused-requires c κs = search needs
 
--- src/lib.rt:932:9
 returns : tie.Need-returns
 returns c = c .refused .ensures ∙ answer-long _ _ (omega (arith, c .before .if1 .taken))
 
--- src/lib.rt:934:21
 cap-requires : tie.Need-cap-requires
 cap-requires c κs = search needs
 
--- src/lib.rt:934:5
 read-entries-requires : tie.Need-read-entries-requires
 read-entries-requires c κs = let k = c .cap .ensures in let h = capped-most (c .before .before .before .args .names) in (c .before .if1 .left, omega arith)
 
--- src/lib.rt:928:1
 returns-2 : tie.Need-returns-2
 returns-2 c = c .read-entries .ensures ∙ answer-whole _ _ _ (c .before .cap .ensures) (c .before .before .if1 .left)
 

@@ -8,35 +8,27 @@ use Rattle.formula.proofs.check_formula.Reads as reads
 use Rattle.formula.proofs.check_formula.Lts as lts
 use Rattle.formula.proofs.read_formula.Reads as read-formula-reads
 
--- src/lib.rt:770:9
 returns : tie.Need-returns
 returns c = parse-long _ _ (omega (arith, c .if1 .taken))
 
--- src/lib.rt:772:11
 read-formula-requires : tie.Need-read-formula-requires
 read-formula-requires c κs = search needs
 
--- src/lib.rt:773:19
 enum-known-f : tie.Need-enum-known-f
 enum-known-f c = search needs
 
--- src/lib.rt:774:19
 enum-known-st : tie.Need-enum-known-st
 enum-known-st c = search needs
 
--- src/lib.rt:776:17
 cast-if2 : tie.Need-cast-if2
 cast-if2 c = search needs
 
--- src/lib.rt:777:17
 returns-2 : tie.Need-returns-2
 returns-2 c = parse-over _ _ _ (c .before .before .before .before .before .before .before .if1 .left) (sym (c .before .before .before .before .before .before .read-formula .ensures) ∙ c .before .before .before .before .st .given .1) (omega (arith, c .if2 .taken))
 
--- src/lib.rt:766:1
 returns-3 : tie.Need-returns-3
 returns-3 c = parse-bad _ _ _ (c .before .before .before .before .if1 .left) (sym (c .before .before .before .read-formula .ensures) ∙ c .before .f .given .1)
 
--- src/lib.rt:766:1
 returns-4 : tie.Need-returns-4
 returns-4 c = parse-good _ _ _ (c .before .before .before .before .before .before .before .if1 .left) (sym (c .before .before .before .before .before .before .read-formula .ensures) ∙ c .before .before .before .before .st .given .1) (omega (arith, c .if2 .left))
 

@@ -6,20 +6,16 @@ use Rattle.formula.proofs.close.Tie as tie
 use Rattle.formula.proofs.close.Reads as reads
 use Rattle.formula.proofs.close.Lts as lts
 
--- src/lib.rt:394:19
 enum-known-o : tie.Need-enum-known-o
 enum-known-o c = search needs
 
--- src/lib.rt:395:19
 enum-known-o-2 : tie.Need-enum-known-o-2
 enum-known-o-2 c = search needs
 
--- src/lib.rt:390:1
 returns : tie.Need-returns
 unfolding closedOf closed
 returns c = rw (c .before .o .given .1)
 
--- src/lib.rt:390:1
 returns-2 : tie.Need-returns-2
 unfolding closedOf closed
 returns-2 c = rw (c .before .before .o2 .given .1)

@@ -7,23 +7,18 @@ use Rattle.formula.proofs.declare.Tie as tie
 use Rattle.formula.proofs.declare.Reads as reads
 use Rattle.formula.proofs.declare.Lts as lts
 
--- src/lib.rt:376:49
 add-t6 : tie.Need-add-t6
 add-t6 c = search needs
 
--- src/lib.rt:376:71
 add-t7 : tie.Need-add-t7
 add-t7 c = search needs
 
--- src/lib.rt:376:13
 returns : tie.Need-returns
 returns c = declare-room _ _ (omega (arith, c .before .before .before .before .if1 .taken)) (omega (arith, c .before .before .if2 .taken))
 
--- src/lib.rt:378:9
 returns-2 : tie.Need-returns-2
 returns-2 c = declare-full _ _ (omega (arith, c .before .before .if1 .taken)) (omega (arith, c .if2 .left))
 
--- src/lib.rt:370:1
 returns-3 : tie.Need-returns-3
 returns-3 c = declare-many _ _ (omega (arith, c .if1 .left))
 

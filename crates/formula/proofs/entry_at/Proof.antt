@@ -11,33 +11,26 @@ use Rattle.formula.proofs.entry_at.Lts as lts
 use Rattle.heads.proofs.byte_at.Reads as byte-at-reads
 use Rattle.heads.proofs.name_at.Reads as name-at-reads
 
--- src/lib.rt:809:11
 byte-at-requires : tie.Need-byte-at-requires
 byte-at-requires c κs = search needs
 
--- src/lib.rt:810:26
 enum-told : tie.Need-enum-told
 enum-told c = search needs
 
--- src/lib.rt:811:18
 enum-known-k : tie.Need-enum-known-k
 enum-known-k c = search needs
 
--- src/lib.rt:813:17
 name-at-requires : tie.Need-name-at-requires
 name-at-requires c κs = search needs
 
--- src/lib.rt:813:17
 returns : tie.Need-returns
 unfolding entryAt onByte
 returns c = rw ((sym (c .before .before .before .before .before .byte-at .ensures) ∙ c .before .before .before .k .given .1), eq-eqb _ _ (c .before .if1 .taken)) (c .name-at .ensures)
 
--- src/lib.rt:805:1
 returns-2 : tie.Need-returns-2
 unfolding entryAt onByte
 returns-2 c = rw ((sym (c .before .before .byte-at .ensures) ∙ c .enum-told .given .1))
 
--- src/lib.rt:805:1
 returns-3 : tie.Need-returns-3
 unfolding entryAt onByte
 returns-3 c = rw ((sym (c .before .before .before .before .byte-at .ensures) ∙ c .before .before .k .given .1), ne-eqb _ _ (c .if1 .left))

@@ -5,7 +5,6 @@ use Rattle.formula.proofs.moved_to.Tie as tie
 use Rattle.formula.proofs.moved_to.Reads as reads
 use Rattle.formula.proofs.moved_to.Lts as lts
 
--- src/lib.rt:381:1
 returns : tie.Need-returns
 unfolding moved
 returns c = refl

@@ -7,15 +7,12 @@ use Rattle.formula.proofs.own.Tie as tie
 use Rattle.formula.proofs.own.Reads as reads
 use Rattle.formula.proofs.own.Lts as lts
 
--- src/lib.rt:363:45
 add-t5 : tie.Need-add-t5
 add-t5 c = search needs
 
--- src/lib.rt:363:9
 returns : tie.Need-returns
 returns c = own-room _ _ (omega (arith, c .before .if1 .taken))
 
--- src/lib.rt:359:1
 returns-2 : tie.Need-returns-2
 returns-2 c = own-full _ _ (omega (arith, c .before .if1 .left))
 

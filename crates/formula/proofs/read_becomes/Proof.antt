@@ -14,79 +14,60 @@ use Rattle.formula.proofs.read_pairs.Reads as read-pairs-reads
 use Rattle.formula.proofs.read_pred.Reads as read-pred-reads
 use Rattle.formula.proofs.read_targets.Reads as read-targets-reads
 
--- src/lib.rt:717:11
 few-at-requires : tie.Need-few-at-requires
 few-at-requires c κs = search needs
 
--- src/lib.rt:718:36
 enum-told : tie.Need-enum-told
 enum-told c = search needs
 
--- src/lib.rt:719:18
 enum-known-n : tie.Need-enum-known-n
 enum-known-n c = search needs
 
--- src/lib.rt:720:35
 moved-to-requires : tie.Need-moved-to-requires
 moved-to-requires c κs = search needs
 
--- src/lib.rt:722:46
 sub-read-pairs : tie.Need-sub-read-pairs
 sub-read-pairs c = search needs
 
--- src/lib.rt:722:25
 read-pairs-requires : tie.Need-read-pairs-requires
 read-pairs-requires c κs = search needs
 
--- src/lib.rt:724:25
 read-targets-requires : tie.Need-read-targets-requires
 read-targets-requires c κs = search needs
 
--- src/lib.rt:725:48
 sub-read-expr : tie.Need-sub-read-expr
 sub-read-expr c = search needs
 
--- src/lib.rt:725:21
 read-expr-requires : tie.Need-read-expr-requires
 read-expr-requires c κs = search needs
 
--- src/lib.rt:728:25
 read-targets-requires-2 : tie.Need-read-targets-requires-2
 read-targets-requires-2 c κs = search needs
 
--- src/lib.rt:729:51
 sub-read-decls : tie.Need-sub-read-decls
 sub-read-decls c = search needs
 
--- src/lib.rt:729:25
 read-decls-requires : tie.Need-read-decls-requires
 read-decls-requires c κs = search needs
 
--- src/lib.rt:730:41
 sub-read-pred : tie.Need-sub-read-pred
 sub-read-pred c = search needs
 
--- src/lib.rt:730:21
 read-pred-requires : tie.Need-read-pred-requires
 read-pred-requires c κs = search needs
 
--- src/lib.rt:712:1
 returns : tie.Need-returns
 returns c = becomes-wrong _ _ _ _ _ (sym (c .before .before .few-at .ensures) ∙ c .enum-told .given .1)
 
--- src/lib.rt:712:1
 returns-2 : tie.Need-returns-2
 returns-2 c = rw (c .read-pairs .ensures, c .before .before .moved-to .ensures) (becomes-pairs _ _ _ _ _ _ _ (sym (c .before .before .before .before .before .before .few-at .ensures) ∙ c .before .before .before .before .n .given .1) (c .before .match2 .keys1))
 
--- src/lib.rt:712:1
 returns-3 : tie.Need-returns-3
 returns-3 c = rw (c .read-expr .ensures, c .before .read-targets .ensures, c .before .before .before .moved-to .ensures) (becomes-set _ _ _ _ _ _ _ (sym (c .before .before .before .before .before .before .before .few-at .ensures) ∙ c .before .before .before .before .before .n .given .1) (c .before .before .match2 .keys2))
 
--- src/lib.rt:712:1
 returns-4 : tie.Need-returns-4
 returns-4 c = rw (c .read-pred .ensures, c .before .read-decls .ensures, c .before .before .read-targets2 .ensures, c .before .before .before .before .moved-to .ensures) (becomes-that _ _ _ _ _ _ _ (sym (c .before .before .before .before .before .before .before .before .few-at .ensures) ∙ c .before .before .before .before .before .before .n .given .1) (c .before .before .before .match2 .keys3))
 
--- src/lib.rt:712:1
 returns-5 : tie.Need-returns-5
 returns-5 c = becomes-other _ _ _ _ _ _ _ (sym (c .before .before .before .before .before .few-at .ensures) ∙ c .before .before .before .n .given .1) (c .match2 .rest .0 .0 .1) (c .match2 .rest .0 .1) (c .match2 .rest .1)
 

@@ -19,27 +19,21 @@ Inv-loop s names left n cur₀ i₀ cur i = (after cur (declsAt names (reach s) 
 abbrev μ-loop : tie.MeasureT-loop
 μ-loop s names left n cur₀ i₀ cur i = i
 
--- src/lib.rt:477:5
 loop-holds : tie.Need-loop-holds Inv-loop μ-loop
 loop-holds c = (refl, omega arith)
 
--- src/lib.rt:478:9
 read-decl-requires : tie.Need-read-decl-requires Inv-loop μ-loop
 read-decl-requires c κs = search needs
 
--- src/lib.rt:479:9
 sub-i : tie.Need-sub-i Inv-loop μ-loop
 sub-i c = search needs
 
--- src/lib.rt:477:5
 loop-less : tie.Need-loop-less Inv-loop μ-loop
 loop-less c = omega arith
 
--- src/lib.rt:477:5
 loop-again : tie.Need-loop-again Inv-loop μ-loop
 loop-again c = (decls-next _ _ _ _ _ _ (c .read-decl .ensures) (λ e. omega (arith, e, c .before .loop-test .taken)) ∙ c .before .before .loop .inv .0, omega arith)
 
--- src/lib.rt:471:1
 returns : tie.Need-returns Inv-loop μ-loop
 returns c = decls-none _ _ _ _ _ (omega arith) ∙ c .before .loop .inv .0
 

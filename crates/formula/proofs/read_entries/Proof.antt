@@ -21,79 +21,60 @@ Inv-loop s names types₀ at₀ turns₀ types at turns = Going names s (entries
 abbrev μ-loop : tie.MeasureT-loop
 μ-loop s names types₀ at₀ turns₀ types at turns = turns
 
--- src/lib.rt:899:5
 loop-holds : tie.Need-loop-holds Inv-loop μ-loop
 loop-holds c = (going-start _ _ _, omega arith)
 
--- src/lib.rt:900:12
 ended-requires : tie.Need-ended-requires Inv-loop μ-loop
 ended-requires c κs = search needs
 
--- src/lib.rt:901:13
 returns : tie.Need-returns Inv-loop μ-loop
 returns c = answer-good _ _ _ _ _ _ (c .before .before .before .loop .inv .0) (leb-true _ _ (sym (c .before .ended .ensures) ∙ c .if1 .taken))
 
--- src/lib.rt:906:15
 read-entry-requires : tie.Need-read-entry-requires Inv-loop μ-loop
 read-entry-requires c κs = search needs
 
--- src/lib.rt:907:28
 enum-known-f : tie.Need-enum-known-f Inv-loop μ-loop
 enum-known-f c = search needs
 
--- src/lib.rt:908:17
 refused-requires : tie.Need-refused-requires Inv-loop μ-loop
 refused-requires c κs = search needs
 
--- src/lib.rt:908:17
 returns-2 : tie.Need-returns-2 Inv-loop μ-loop
 returns-2 c = c .refused .ensures ∙ answer-wrong _ _ _ _ _ _ (c .before .before .before .before .before .before .before .before .before .loop .inv .0) (λ e. omega (arith, e, c .before .before .before .before .before .before .before .before .loop-test .taken)) (leb-false _ _ (sym (c .before .before .before .before .before .before .before .ended .ensures) ∙ c .before .before .before .before .before .before .if1 .left)) (c .before .before .before .before .before .before .before .before .before .before .before .pre .1) (λ i. let z = c .before .before .before .before .before .before .before .before .before .before .shared-slice-known .given i in omega arith) _ (sym (c .before .before .before .before .read-entry .ensures) ∙ c .before .before .f .given .1)
 
--- src/lib.rt:910:28
 enum-known-x : tie.Need-enum-known-x Inv-loop μ-loop
 enum-known-x c = search needs
 
--- src/lib.rt:911:25
 cast-i : tie.Need-cast-i Inv-loop μ-loop
 cast-i c = search needs
 
--- src/lib.rt:912:28
 add-types : tie.Need-add-types Inv-loop μ-loop
 add-types c = let h = turn-next _ _ _ _ _ _ (c .before .before .before .before .before .before .before .before .before .loop .inv .0) (λ e. omega (arith, e, c .before .before .before .before .before .before .before .before .loop-test .taken)) (leb-false _ _ (sym (c .before .before .before .before .before .before .before .ended .ensures) ∙ c .before .before .before .before .before .before .if1 .left)) (c .before .before .before .before .before .before .before .before .before .before .before .pre .1) (λ i. let z = c .before .before .before .before .before .before .before .before .before .before .shared-slice-known .given i in omega arith) _ _ _ (sym (c .before .before .before .before .read-entry .ensures) ∙ c .before .before .x .given .1) in let i = h .1 in let l = c .before .before .before .before .before .before .before .before .before .before .before .pre .0 in search needs
 
--- src/lib.rt:912:17
 mul-types : tie.Need-mul-types Inv-loop μ-loop
 mul-types c = let h = turn-next _ _ _ _ _ _ (c .before .before .before .before .before .before .before .before .before .loop .inv .0) (λ e. omega (arith, e, c .before .before .before .before .before .before .before .before .loop-test .taken)) (leb-false _ _ (sym (c .before .before .before .before .before .before .before .ended .ensures) ∙ c .before .before .before .before .before .before .if1 .left)) (c .before .before .before .before .before .before .before .before .before .before .before .pre .1) (λ i. let z = c .before .before .before .before .before .before .before .before .before .before .shared-slice-known .given i in omega arith) _ _ _ (sym (c .before .before .before .before .read-entry .ensures) ∙ c .before .before .x .given .1) in let i = h .0 in let l = c .before .before .before .before .before .before .before .before .before .before .before .pre .1 in search needs
 
--- src/lib.rt:912:17
 array-write-types : tie.Need-array-write-types Inv-loop μ-loop
 array-write-types c = let h = turn-next _ _ _ _ _ _ (c .before .before .before .before .before .before .before .before .before .loop .inv .0) (λ e. omega (arith, e, c .before .before .before .before .before .before .before .before .loop-test .taken)) (leb-false _ _ (sym (c .before .before .before .before .before .before .before .ended .ensures) ∙ c .before .before .before .before .before .before .if1 .left)) (c .before .before .before .before .before .before .before .before .before .before .before .pre .1) (λ i. let z = c .before .before .before .before .before .before .before .before .before .before .shared-slice-known .given i in omega arith) _ _ _ (sym (c .before .before .before .before .read-entry .ensures) ∙ c .before .before .x .given .1) in let i = h .0 in let l = c .before .before .before .before .before .before .before .before .before .before .before .pre .1 in omega arith
 
--- src/lib.rt:916:9
 sub-turns : tie.Need-sub-turns Inv-loop μ-loop
 sub-turns c = search needs
 
--- src/lib.rt:899:5
 loop-less : tie.Need-loop-less Inv-loop μ-loop
 loop-less c = omega arith
 
--- src/lib.rt:899:5
 loop-again : tie.Need-loop-again Inv-loop μ-loop
 loop-again c = (turn-next _ _ _ _ _ _ (c .before .before .before .before .before .before .before .before .before .loop .inv .0) (λ e. omega (arith, e, c .before .before .before .before .before .before .before .before .loop-test .taken)) (leb-false _ _ (sym (c .before .before .before .before .before .before .before .ended .ensures) ∙ c .before .before .before .before .before .before .if1 .left)) (c .before .before .before .before .before .before .before .before .before .before .before .pre .1) (λ i. let z = c .before .before .before .before .before .before .before .before .before .before .shared-slice-known .given i in omega arith) _ _ _ (sym (c .before .before .before .before .read-entry .ensures) ∙ c .before .before .x .given .1) .2, omega arith)
 
--- src/lib.rt:918:8
 ended-requires-2 : tie.Need-ended-requires-2 Inv-loop μ-loop
 ended-requires-2 c κs = search needs
 
--- src/lib.rt:919:9
 returns-3 : tie.Need-returns-3 Inv-loop μ-loop
 returns-3 c = answer-good _ _ _ _ _ _ (c .before .before .before .loop .inv .0) (leb-true _ _ (sym (c .before .ended2 .ensures) ∙ c .if2 .taken))
 
--- src/lib.rt:924:5
 refused-requires-2 : tie.Need-refused-requires-2 Inv-loop μ-loop
 refused-requires-2 c κs = search needs
 
--- src/lib.rt:891:1
 returns-4 : tie.Need-returns-4 Inv-loop μ-loop
 returns-4 c = c .refused2 .ensures ∙ answer-out _ _ _ _ _ _ (c .before .before .before .before .loop .inv .0) (omega (arith, c .before .before .before .loop-test .left)) (leb-false _ _ (sym (c .before .before .ended2 .ensures) ∙ c .before .if2 .left))
 

@@ -9,69 +9,53 @@ use Rattle.formula.proofs.read_entry.Lts as lts
 use Rattle.formula.proofs.entry_at.Reads as entry-at-reads
 use Rattle.formula.proofs.type_at.Reads as type-at-reads
 
--- src/lib.rt:864:11
 entry-at-requires : tie.Need-entry-at-requires
 entry-at-requires c κs = search needs
 
--- src/lib.rt:865:41
 enum-told : tie.Need-enum-told
 enum-told c = search needs
 
--- src/lib.rt:866:18
 enum-known-x : tie.Need-enum-known-x
 enum-known-x c = search needs
 
--- src/lib.rt:867:21
 cast-i : tie.Need-cast-i
 cast-i c = search needs
 
--- src/lib.rt:868:16
 mul-if1 : tie.Need-mul-if1
 mul-if1 c = search needs
 
--- src/lib.rt:868:16
 element-copy-out-if1 : tie.Need-element-copy-out-if1
 element-copy-out-if1 c = let h = entry-end _ _ _ _ _ (sym (c .before .before .before .entry-at .ensures) ∙ c .before .x .given .1) in let i = h .0 in omega arith
 
--- src/lib.rt:869:17
 returns : tie.Need-returns
 returns c = entered-again _ _ _ _ _ _ (sym (c .before .before .before .before .before .entry-at .ensures) ∙ c .before .before .before .x .given .1) (λ e. omega (arith, e, c .if1 .taken)) ∙ entered-reach _ _ _ _ (c .before .before .before .before .before .before .before .pre .0)
 
--- src/lib.rt:871:37
 sub-type-at : tie.Need-sub-type-at
 sub-type-at c = search needs
 
--- src/lib.rt:871:19
 type-at-requires : tie.Need-type-at-requires
 type-at-requires c κs = search needs
 
--- src/lib.rt:872:30
 enum-known-f : tie.Need-enum-known-f
 enum-known-f c = search needs
 
--- src/lib.rt:873:36
 enum-known-p : tie.Need-enum-known-p
 enum-known-p c = search needs
 
--- src/lib.rt:874:31
 enum-known-p-2 : tie.Need-enum-known-p-2
 enum-known-p-2 c = search needs
 
--- src/lib.rt:859:1
 returns-2 : tie.Need-returns-2
 returns-2 c = entered-none _ _ _ _ (sym (c .before .before .entry-at .ensures) ∙ c .enum-told .given .1) ∙ entered-reach _ _ _ _ (c .before .before .before .before .pre .0)
 
--- src/lib.rt:859:1
 returns-3 : tie.Need-returns-3
 unfolding enteredBy
 returns-3 c = entered-by _ _ _ _ _ _ (sym (c .before .before .before .before .before .before .before .before .before .entry-at .ensures) ∙ c .before .before .before .before .before .before .before .x .given .1) (omega (arith, c .before .before .before .before .if1 .left)) _ _ (sym (c .before .before .before .type-at .ensures) ∙ c .before .f .given .1) (omega arith) ∙ entered-reach _ _ _ _ (c .before .before .before .before .before .before .before .before .before .before .before .pre .0)
 
--- src/lib.rt:859:1
 returns-4 : tie.Need-returns-4
 unfolding enteredBy
 returns-4 c = entered-by _ _ _ _ _ _ (sym (c .before .before .before .before .before .before .before .before .before .entry-at .ensures) ∙ c .before .before .before .before .before .before .before .x .given .1) (omega (arith, c .before .before .before .before .if1 .left)) _ _ (sym (c .before .before .before .type-at .ensures) ∙ c .before .p .given .1) (omega arith) ∙ entered-reach _ _ _ _ (c .before .before .before .before .before .before .before .before .before .before .before .pre .0)
 
--- src/lib.rt:859:1
 returns-5 : tie.Need-returns-5
 unfolding enteredBy
 returns-5 c = entered-by _ _ _ _ _ _ (sym (c .before .before .before .before .before .before .before .before .before .entry-at .ensures) ∙ c .before .before .before .before .before .before .before .x .given .1) (omega (arith, c .before .before .before .before .if1 .left)) _ _ (sym (c .before .before .before .type-at .ensures) ∙ c .before .p2 .given .1) (omega arith) ∙ entered-reach _ _ _ _ (c .before .before .before .before .before .before .before .before .before .before .before .pre .0)

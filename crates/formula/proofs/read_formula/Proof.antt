@@ -11,43 +11,33 @@ use Rattle.formula.proofs.read_becomes.Reads as read-becomes-reads
 use Rattle.formula.proofs.read_expr.Reads as read-expr-reads
 use Rattle.formula.proofs.read_pred.Reads as read-pred-reads
 
--- src/lib.rt:744:11
 byte-at-requires : tie.Need-byte-at-requires
 byte-at-requires c κs = search needs
 
--- src/lib.rt:745:36
 enum-told : tie.Need-enum-told
 enum-told c = search needs
 
--- src/lib.rt:746:18
 enum-known-k : tie.Need-enum-known-k
 enum-known-k c = search needs
 
--- src/lib.rt:748:17
 read-expr-requires : tie.Need-read-expr-requires
 read-expr-requires c κs = search needs
 
--- src/lib.rt:748:17
 returns : tie.Need-returns
 returns c = c .read-expr .ensures ∙ formula-expr _ _ _ _ _ (sym (c .before .before .before .before .before .byte-at .ensures) ∙ c .before .before .before .k .given .1) (c .before .if1 .taken)
 
--- src/lib.rt:751:17
 read-pred-requires : tie.Need-read-pred-requires
 read-pred-requires c κs = search needs
 
--- src/lib.rt:751:17
 returns-2 : tie.Need-returns-2
 returns-2 c = c .read-pred .ensures ∙ formula-pred _ _ _ _ _ (sym (c .before .before .before .before .before .before .byte-at .ensures) ∙ c .before .before .before .before .k .given .1) (c .before .before .if1 .left) (c .before .if2 .taken)
 
--- src/lib.rt:753:13
 read-becomes-requires : tie.Need-read-becomes-requires
 read-becomes-requires c κs = search needs
 
--- src/lib.rt:739:1
 returns-3 : tie.Need-returns-3
 returns-3 c = formula-none _ _ _ (sym (c .before .before .byte-at .ensures) ∙ c .enum-told .given .1)
 
--- src/lib.rt:739:1
 returns-4 : tie.Need-returns-4
 returns-4 c = c .read-becomes .ensures ∙ formula-becomes _ _ _ _ _ (sym (c .before .before .before .before .before .before .byte-at .ensures) ∙ c .before .before .before .before .k .given .1) (c .before .if2 .left)
 

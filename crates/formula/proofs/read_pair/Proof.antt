@@ -9,15 +9,12 @@ use Rattle.formula.proofs.read_pair.Lts as lts
 use Rattle.formula.proofs.read_expr.Reads as read-expr-reads
 use Rattle.formula.proofs.read_target.Reads as read-target-reads
 
--- src/lib.rt:694:9
 read-target-requires : tie.Need-read-target-requires
 read-target-requires c κs = search needs
 
--- src/lib.rt:695:5
 read-expr-requires : tie.Need-read-expr-requires
 read-expr-requires c κs = search needs
 
--- src/lib.rt:690:1
 returns : tie.Need-returns
 returns c = rw (c .read-expr .ensures, c .before .read-target .ensures) (pair-both _ _ _ _)
 

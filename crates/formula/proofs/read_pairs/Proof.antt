@@ -18,27 +18,21 @@ Inv-loop s names left n cur₀ i₀ cur i = (after cur (pairsAt left names (reac
 abbrev μ-loop : tie.MeasureT-loop
 μ-loop s names left n cur₀ i₀ cur i = i
 
--- src/lib.rt:704:5
 loop-holds : tie.Need-loop-holds Inv-loop μ-loop
 loop-holds c = (refl, omega arith)
 
--- src/lib.rt:705:9
 read-pair-requires : tie.Need-read-pair-requires Inv-loop μ-loop
 read-pair-requires c κs = search needs
 
--- src/lib.rt:706:9
 sub-i : tie.Need-sub-i Inv-loop μ-loop
 sub-i c = search needs
 
--- src/lib.rt:704:5
 loop-less : tie.Need-loop-less Inv-loop μ-loop
 loop-less c = omega arith
 
--- src/lib.rt:704:5
 loop-again : tie.Need-loop-again Inv-loop μ-loop
 loop-again c = (pairs-next _ _ _ _ _ _ (c .read-pair .ensures) (λ e. omega (arith, e, c .before .loop-test .taken)) ∙ c .before .before .loop .inv .0, omega arith)
 
--- src/lib.rt:698:1
 returns : tie.Need-returns Inv-loop μ-loop
 returns c = pairs-none _ _ _ _ _ (omega arith) ∙ c .before .loop .inv .0
 

@@ -9,39 +9,30 @@ use Rattle.formula.proofs.read_target.Lts as lts
 use Rattle.formula.proofs.own.Reads as own-reads
 use Rattle.heads.proofs.target_at.Reads as target-at-reads
 
--- src/lib.rt:665:19
 enum-known-o : tie.Need-enum-known-o
 enum-known-o c = search needs
 
--- src/lib.rt:666:19
 enum-known-o-2 : tie.Need-enum-known-o-2
 enum-known-o-2 c = search needs
 
--- src/lib.rt:668:19
 target-at-requires : tie.Need-target-at-requires
 target-at-requires c κs = search needs
 
--- src/lib.rt:669:44
 enum-told : tie.Need-enum-told
 enum-told c = search needs
 
--- src/lib.rt:670:29
 enum-known-e : tie.Need-enum-known-e
 enum-known-e c = search needs
 
--- src/lib.rt:670:35
 own-requires : tie.Need-own-requires
 own-requires c κs = search needs
 
--- src/lib.rt:660:1
 returns : tie.Need-returns
 returns c = rw (c .before .o .given .1) (after-stop _ _)
 
--- src/lib.rt:660:1
 returns-2 : tie.Need-returns-2
 returns-2 c = rw (c .before .before .before .before .before .o2 .given .1) (target-wrong _ _ _ (sym (c .before .before .target-at .ensures) ∙ c .enum-told .given .1))
 
--- src/lib.rt:660:1
 returns-3 : tie.Need-returns-3
 returns-3 c = rw (c .before .before .before .before .before .before .before .o2 .given .1) (c .own .ensures ∙ target-own _ _ _ _ _ (sym (c .before .before .before .before .target-at .ensures) ∙ c .before .before .e .given .1))
 

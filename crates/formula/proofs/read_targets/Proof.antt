@@ -18,27 +18,21 @@ Inv-loop s names n cur₀ i₀ cur i = (after cur (targetsAt names (reach s) i) 
 abbrev μ-loop : tie.MeasureT-loop
 μ-loop s names n cur₀ i₀ cur i = i
 
--- src/lib.rt:682:5
 loop-holds : tie.Need-loop-holds Inv-loop μ-loop
 loop-holds c = (refl, omega arith)
 
--- src/lib.rt:683:9
 read-target-requires : tie.Need-read-target-requires Inv-loop μ-loop
 read-target-requires c κs = search needs
 
--- src/lib.rt:684:9
 sub-i : tie.Need-sub-i Inv-loop μ-loop
 sub-i c = search needs
 
--- src/lib.rt:682:5
 loop-less : tie.Need-loop-less Inv-loop μ-loop
 loop-less c = omega arith
 
--- src/lib.rt:682:5
 loop-again : tie.Need-loop-again Inv-loop μ-loop
 loop-again c = (targets-next _ _ 0 _ _ _ (c .read-target .ensures) (λ e. omega (arith, e, c .before .loop-test .taken)) ∙ c .before .before .loop .inv .0, omega arith)
 
--- src/lib.rt:676:1
 returns : tie.Need-returns Inv-loop μ-loop
 returns c = targets-none _ _ 0 _ _ (omega arith) ∙ c .before .loop .inv .0
 

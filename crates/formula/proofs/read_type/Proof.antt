@@ -9,49 +9,38 @@ use Rattle.formula.proofs.read_type.Lts as lts
 use Rattle.formula.proofs.moved_to.Reads as moved-to-reads
 use Rattle.formula.proofs.type_at.Reads as type-at-reads
 
--- src/lib.rt:404:19
 enum-known-o : tie.Need-enum-known-o
 enum-known-o c = search needs
 
--- src/lib.rt:405:19
 enum-known-o-2 : tie.Need-enum-known-o-2
 enum-known-o-2 c = search needs
 
--- src/lib.rt:405:32
 type-at-requires : tie.Need-type-at-requires
 type-at-requires c κs = search needs
 
--- src/lib.rt:406:26
 enum-known-e : tie.Need-enum-known-e
 enum-known-e c = search needs
 
--- src/lib.rt:406:42
 moved-to-requires : tie.Need-moved-to-requires
 moved-to-requires c κs = search needs
 
--- src/lib.rt:407:32
 enum-known-p : tie.Need-enum-known-p
 enum-known-p c = search needs
 
--- src/lib.rt:408:27
 enum-known-p-2 : tie.Need-enum-known-p-2
 enum-known-p-2 c = search needs
 
--- src/lib.rt:399:1
 returns : tie.Need-returns
 returns c = rw (c .before .o .given .1) (after-stop _ _)
 
--- src/lib.rt:399:1
 returns-2 : tie.Need-returns-2
 unfolding typeOut
 returns-2 c = rw (c .before .before .before .before .before .before .before .o2 .given .1, type-in _ _ _ _, (sym (c .before .before .before .before .type-at .ensures) ∙ c .before .before .e .given .1), c .moved-to .ensures)
 
--- src/lib.rt:399:1
 returns-3 : tie.Need-returns-3
 unfolding typeOut
 returns-3 c = rw (c .before .before .before .before .before .before .o2 .given .1, type-in _ _ _ _, (sym (c .before .before .before .type-at .ensures) ∙ c .before .p .given .1))
 
--- src/lib.rt:399:1
 returns-4 : tie.Need-returns-4
 unfolding typeOut
 returns-4 c = rw (c .before .before .before .before .before .before .o2 .given .1, type-in _ _ _ _, (sym (c .before .before .before .type-at .ensures) ∙ c .before .p2 .given .1))

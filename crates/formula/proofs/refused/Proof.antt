@@ -5,7 +5,6 @@ use Rattle.formula.proofs.refused.Tie as tie
 use Rattle.formula.proofs.refused.Reads as reads
 use Rattle.formula.proofs.refused.Lts as lts
 
--- src/lib.rt:881:1
 returns : tie.Need-returns
 unfolding blank
 returns c = refl

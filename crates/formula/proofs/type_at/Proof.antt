@@ -7,11 +7,9 @@ use Rattle.formula.proofs.type_at.Reads as reads
 use Rattle.formula.proofs.type_at.Lts as lts
 use Rattle.types.proofs.type_end.Reads as type-end-reads
 
--- src/lib.rt:433:5
 type-end-requires : tie.Need-type-end-requires
 type-end-requires c κs = search needs
 
--- src/lib.rt:429:1
 returns : tie.Need-returns
 unfolding reach
 returns c = c .type-end .ensures

@@ -6,27 +6,21 @@ use Rattle.heads.proofs.byte_at.Tie as tie
 use Rattle.heads.proofs.byte_at.Reads as reads
 use Rattle.heads.proofs.byte_at.Lts as lts
 
--- src/lib.rt:89:13
 cast-i : tie.Need-cast-i
 cast-i c = search needs
 
--- src/lib.rt:92:29
 shared-slice-read-t9 : tie.Need-shared-slice-read-t9
 shared-slice-read-t9 c = search needs
 
--- src/lib.rt:92:41
 add-t10 : tie.Need-add-t10
 add-t10 c = search needs
 
--- src/lib.rt:92:13
 returns : tie.Need-returns
 returns c = byte-reached _ _ (omega arith) (omega arith)
 
--- src/lib.rt:85:1
 returns-2 : tie.Need-returns-2
 returns-2 c = byte-beyond _ _ (omega arith) (omega arith)
 
--- src/lib.rt:85:1
 returns-3 : tie.Need-returns-3
 returns-3 c = byte-ended _ _ (omega arith) (omega arith)
 

@@ -9,29 +9,23 @@ use Rattle.heads.proofs.count_at.Reads as reads
 use Rattle.heads.proofs.count_at.Lts as lts
 use Rattle.heads.proofs.word_at.Reads as word-at-reads
 
--- src/lib.rt:179:11
 word-at-requires : tie.Need-word-at-requires
 word-at-requires c κs = search needs
 
--- src/lib.rt:180:26
 enum-told : tie.Need-enum-told
 enum-told c = search needs
 
--- src/lib.rt:181:18
 enum-known-n : tie.Need-enum-known-n
 enum-known-n c = search needs
 
--- src/lib.rt:183:17
 returns : tie.Need-returns
 unfolding countAt onWord
 returns c = rw ((sym (c .before .before .before .before .word-at .ensures) ∙ c .before .before .n .given .1), le-leb _ _ (c .if1 .taken))
 
--- src/lib.rt:175:1
 returns-2 : tie.Need-returns-2
 unfolding countAt onWord
 returns-2 c = rw ((sym (c .before .before .word-at .ensures) ∙ c .enum-told .given .1))
 
--- src/lib.rt:175:1
 returns-3 : tie.Need-returns-3
 unfolding countAt onWord
 returns-3 c = rw ((sym (c .before .before .before .before .word-at .ensures) ∙ c .before .before .n .given .1), lt-leb _ _ (c .if1 .left))

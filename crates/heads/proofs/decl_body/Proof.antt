@@ -7,22 +7,18 @@ use Rattle.heads.proofs.decl_body.Tie as tie
 use Rattle.heads.proofs.decl_body.Reads as reads
 use Rattle.heads.proofs.decl_body.Lts as lts
 
--- src/lib.rt:319:1
 returns : tie.Need-returns
 unfolding declBody
 returns c = rw (c .match .keys1)
 
--- src/lib.rt:319:1
 returns-2 : tie.Need-returns-2
 unfolding declBody
 returns-2 c = rw (c .match .keys2)
 
--- src/lib.rt:319:1
 returns-3 : tie.Need-returns-3
 unfolding declBody
 returns-3 c = rw (c .match .keys3)
 
--- src/lib.rt:319:1
 returns-4 : tie.Need-returns-4
 unfolding declBody
 returns-4 c = rw (ne-eqb _ _ (c .match .rest .0 .0 .1), ne-eqb _ _ (c .match .rest .0 .1), ne-eqb _ _ (c .match .rest .1))

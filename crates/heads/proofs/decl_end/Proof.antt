@@ -5,29 +5,23 @@ use Rattle.heads.proofs.decl_end.Tie as tie
 use Rattle.heads.proofs.decl_end.Reads as reads
 use Rattle.heads.proofs.decl_end.Lts as lts
 
--- src/lib.rt:326:25
 enum-known-h : tie.Need-enum-known-h
 enum-known-h c = search needs
 
--- src/lib.rt:327:25
 enum-known-h-2 : tie.Need-enum-known-h-2
 enum-known-h-2 c = search needs
 
--- src/lib.rt:328:29
 enum-known-h-3 : tie.Need-enum-known-h-3
 enum-known-h-3 c = search needs
 
--- src/lib.rt:322:1
 returns : tie.Need-returns
 unfolding declEnd
 returns c = rw (c .before .h .given .1)
 
--- src/lib.rt:322:1
 returns-2 : tie.Need-returns-2
 unfolding declEnd
 returns-2 c = rw (c .before .h2 .given .1)
 
--- src/lib.rt:322:1
 returns-3 : tie.Need-returns-3
 unfolding declEnd
 returns-3 c = rw (c .before .h3 .given .1)

@@ -9,28 +9,22 @@ use Rattle.heads.proofs.decl_head.Lts as lts
 use Rattle.heads.proofs.byte_at.Reads as byte-at-reads
 use Rattle.heads.proofs.decl_body.Reads as decl-body-reads
 
--- src/lib.rt:334:11
 byte-at-requires : tie.Need-byte-at-requires
 byte-at-requires c κs = search needs
 
--- src/lib.rt:335:26
 enum-told : tie.Need-enum-told
 enum-told c = search needs
 
--- src/lib.rt:336:18
 enum-known-k : tie.Need-enum-known-k
 enum-known-k c = search needs
 
--- src/lib.rt:336:27
 decl-body-requires : tie.Need-decl-body-requires
 decl-body-requires c κs = search needs
 
--- src/lib.rt:330:1
 returns : tie.Need-returns
 unfolding declHead onByte
 returns c = rw ((sym (c .before .before .byte-at .ensures) ∙ c .enum-told .given .1))
 
--- src/lib.rt:330:1
 returns-2 : tie.Need-returns-2
 unfolding declHead onByte
 returns-2 c = rw ((sym (c .before .before .before .before .byte-at .ensures) ∙ c .before .before .k .given .1)) (c .decl-body .ensures)

@@ -9,28 +9,22 @@ use Rattle.heads.proofs.expr_head.Lts as lts
 use Rattle.heads.proofs.byte_at.Reads as byte-at-reads
 use Rattle.heads.proofs.expr_body.Reads as expr-body-reads
 
--- src/lib.rt:269:11
 byte-at-requires : tie.Need-byte-at-requires
 byte-at-requires c κs = search needs
 
--- src/lib.rt:270:26
 enum-told : tie.Need-enum-told
 enum-told c = search needs
 
--- src/lib.rt:271:18
 enum-known-k : tie.Need-enum-known-k
 enum-known-k c = search needs
 
--- src/lib.rt:271:27
 expr-body-requires : tie.Need-expr-body-requires
 expr-body-requires c κs = search needs
 
--- src/lib.rt:265:1
 returns : tie.Need-returns
 unfolding exprHead onByte
 returns c = rw ((sym (c .before .before .byte-at .ensures) ∙ c .enum-told .given .1))
 
--- src/lib.rt:265:1
 returns-2 : tie.Need-returns-2
 unfolding exprHead onByte
 returns-2 c = rw ((sym (c .before .before .before .before .byte-at .ensures) ∙ c .before .before .k .given .1)) (c .expr-body .ensures)

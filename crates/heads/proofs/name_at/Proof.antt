@@ -1,6 +1,6 @@
 use mathlib.Core.Path.{_≡_, refl, sym, ap, _∙_}
 use native.Mathlib.Omega.{arith}
-use borrow.Author.Tests.{le-ltb, lt-ltb}
+use Rattle.heads.specs.Reads.{name-below, name-past}
 use Rattle.heads.specs.Heads.{nameAt, onWord}
 use borrow.Author.Needs.{needs}
 use Rattle.heads.proofs.name_at.Statement.{statement}
@@ -9,36 +9,27 @@ use Rattle.heads.proofs.name_at.Reads as reads
 use Rattle.heads.proofs.name_at.Lts as lts
 use Rattle.heads.proofs.word_at.Reads as word-at-reads
 
--- src/lib.rt:147:11
 word-at-requires : tie.Need-word-at-requires
 word-at-requires c κs = search needs
 
--- src/lib.rt:148:26
 enum-told : tie.Need-enum-told
 enum-told c = search needs
 
--- src/lib.rt:149:18
 enum-known-n : tie.Need-enum-known-n
 enum-known-n c = search needs
 
--- src/lib.rt:150:17
 cast-if1 : tie.Need-cast-if1
 cast-if1 c = search needs
 
--- src/lib.rt:151:17
 returns : tie.Need-returns
-unfolding nameAt onWord
-returns c = rw ((sym (c .before .before .before .before .word-at .ensures) ∙ c .before .before .n .given .1), lt-ltb _ _ (c .if1 .taken))
+returns c = name-below _ _ _ _ _ (sym (c .before .before .before .before .word-at .ensures) ∙ c .before .before .n .given .1) (omega (arith, c .if1 .taken))
 
--- src/lib.rt:143:1
 returns-2 : tie.Need-returns-2
 unfolding nameAt onWord
 returns-2 c = rw ((sym (c .before .before .word-at .ensures) ∙ c .enum-told .given .1))
 
--- src/lib.rt:143:1
 returns-3 : tie.Need-returns-3
-unfolding nameAt onWord
-returns-3 c = rw ((sym (c .before .before .before .before .word-at .ensures) ∙ c .before .before .n .given .1), le-ltb _ _ (c .if1 .left))
+returns-3 c = name-past _ _ _ _ _ (sym (c .before .before .before .before .word-at .ensures) ∙ c .before .before .n .given .1) (omega (arith, c .if1 .left))
 
 pub name-at-spec : {M : Type 1} → statement M
 name-at-spec =

@@ -9,29 +9,23 @@ use Rattle.heads.proofs.op_at.Reads as reads
 use Rattle.heads.proofs.op_at.Lts as lts
 use Rattle.heads.proofs.byte_at.Reads as byte-at-reads
 
--- src/lib.rt:163:11
 byte-at-requires : tie.Need-byte-at-requires
 byte-at-requires c κs = search needs
 
--- src/lib.rt:164:26
 enum-told : tie.Need-enum-told
 enum-told c = search needs
 
--- src/lib.rt:165:18
 enum-known-o : tie.Need-enum-known-o
 enum-known-o c = search needs
 
--- src/lib.rt:167:17
 returns : tie.Need-returns
 unfolding opAt onByte
 returns c = rw ((sym (c .before .before .before .before .byte-at .ensures) ∙ c .before .before .o .given .1), lt-ltb _ _ (c .if1 .taken))
 
--- src/lib.rt:159:1
 returns-2 : tie.Need-returns-2
 unfolding opAt onByte
 returns-2 c = rw ((sym (c .before .before .byte-at .ensures) ∙ c .enum-told .given .1))
 
--- src/lib.rt:159:1
 returns-3 : tie.Need-returns-3
 unfolding opAt onByte
 returns-3 c = rw ((sym (c .before .before .before .before .byte-at .ensures) ∙ c .before .before .o .given .1), le-ltb _ _ (c .if1 .left))

@@ -9,28 +9,22 @@ use Rattle.heads.proofs.pred_head.Lts as lts
 use Rattle.heads.proofs.byte_at.Reads as byte-at-reads
 use Rattle.heads.proofs.pred_body.Reads as pred-body-reads
 
--- src/lib.rt:313:11
 byte-at-requires : tie.Need-byte-at-requires
 byte-at-requires c κs = search needs
 
--- src/lib.rt:314:26
 enum-told : tie.Need-enum-told
 enum-told c = search needs
 
--- src/lib.rt:315:18
 enum-known-k : tie.Need-enum-known-k
 enum-known-k c = search needs
 
--- src/lib.rt:315:27
 pred-body-requires : tie.Need-pred-body-requires
 pred-body-requires c κs = search needs
 
--- src/lib.rt:309:1
 returns : tie.Need-returns
 unfolding predHead onByte
 returns c = rw ((sym (c .before .before .byte-at .ensures) ∙ c .enum-told .given .1))
 
--- src/lib.rt:309:1
 returns-2 : tie.Need-returns-2
 unfolding predHead onByte
 returns-2 c = rw ((sym (c .before .before .before .before .byte-at .ensures) ∙ c .before .before .k .given .1)) (c .pred-body .ensures)

@@ -9,57 +9,44 @@ use Rattle.heads.proofs.word_at.Lts as lts
 use Rattle.heads.proofs.byte_at.Reads as byte-at-reads
 use Rattle.heads.proofs.wide.Reads as wide-reads
 
--- src/lib.rt:133:11
 byte-at-requires : tie.Need-byte-at-requires
 byte-at-requires c κs = search needs
 
--- src/lib.rt:134:26
 enum-told : tie.Need-enum-told
 enum-told c = search needs
 
--- src/lib.rt:135:18
 enum-known-lo : tie.Need-enum-known-lo
 enum-known-lo c = search needs
 
--- src/lib.rt:135:34
 byte-at-requires-2 : tie.Need-byte-at-requires-2
 byte-at-requires-2 c κs = search needs
 
--- src/lib.rt:136:30
 enum-told-2 : tie.Need-enum-told-2
 enum-told-2 c = search needs
 
--- src/lib.rt:137:22
 enum-known-hi : tie.Need-enum-known-hi
 enum-known-hi c = search needs
 
--- src/lib.rt:137:41
 wide-requires : tie.Need-wide-requires
 wide-requires c κs = search needs
 
--- src/lib.rt:137:52
 wide-requires-2 : tie.Need-wide-requires-2
 wide-requires-2 c κs = search needs
 
--- src/lib.rt:137:52
 mul-t13 : tie.Need-mul-t13
 mul-t13 c = search needs
 
--- src/lib.rt:137:41
 add-t14 : tie.Need-add-t14
 add-t14 c = search needs
 
--- src/lib.rt:129:1
 returns : tie.Need-returns
 unfolding wordAt onByte
 returns c = rw ((sym (c .before .before .byte-at .ensures) ∙ c .enum-told .given .1))
 
--- src/lib.rt:129:1
 returns-2 : tie.Need-returns-2
 unfolding wordAt onByte
 returns-2 c = rw ((sym (c .before .before .before .before .before .before .byte-at .ensures) ∙ c .before .before .before .before .lo .given .1), (sym (c .before .before .byte-at2 .ensures) ∙ c .enum-told2 .given .1))
 
--- src/lib.rt:129:1
 returns-3 : tie.Need-returns-3
 unfolding wordAt onByte
 returns-3 c = rw ((sym (c .before .before .before .before .before .before .before .before .before .byte-at .ensures) ∙ c .before .before .before .before .before .before .before .lo .given .1), (sym (c .before .before .before .before .before .byte-at2 .ensures) ∙ c .before .before .before .hi .given .1), c .before .wide .ensures, c .wide2 .ensures)

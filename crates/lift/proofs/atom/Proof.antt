@@ -11,53 +11,41 @@ use Rattle.makers.proofs.boolean.Reads as boolean-reads
 use Rattle.makers.proofs.given.Reads as given-reads
 use Rattle.makers.proofs.int.Reads as int-reads
 
--- src/lib.rt:27:40
 enum-told : tie.Need-enum-told
 enum-told c = search needs
 
--- src/lib.rt:27:23
 boolean-requires : tie.Need-boolean-requires
 boolean-requires c κs = search needs
 
--- src/lib.rt:28:39
 enum-told-2 : tie.Need-enum-told-2
 enum-told-2 c = search needs
 
--- src/lib.rt:28:26
 int-requires : tie.Need-int-requires
 int-requires c κs = search needs
 
--- src/lib.rt:29:21
 enum-known-a : tie.Need-enum-known-a
 enum-known-a c = search needs
 
--- src/lib.rt:29:30
 given-requires : tie.Need-given-requires
 given-requires c κs = search needs
 
--- src/lib.rt:23:1
 same-length : tie.Need-same-length
 same-length c = search needs
 
--- src/lib.rt:23:1
 returns : tie.Need-returns
 unfolding atomIs
 returns c = rw (c .before .before .before .before .enum-told .given .1) (c .before .before .boolean .ensures)
 
--- src/lib.rt:23:1
 same-length-2 : tie.Need-same-length-2
 same-length-2 c = search needs
 
--- src/lib.rt:23:1
 returns-2 : tie.Need-returns-2
 unfolding atomIs
 returns-2 c = rw (c .before .before .before .before .enum-told2 .given .1) (c .before .before .int .ensures)
 
--- src/lib.rt:23:1
 same-length-3 : tie.Need-same-length-3
 same-length-3 c = search needs
 
--- src/lib.rt:23:1
 returns-3 : tie.Need-returns-3
 unfolding atomIs
 returns-3 c = rw (c .before .before .before .before .before .a .given .1) (c .before .before .given .ensures)

@@ -5,29 +5,23 @@ use Rattle.lift.proofs.crown.Tie as tie
 use Rattle.lift.proofs.crown.Reads as reads
 use Rattle.lift.proofs.crown.Lts as lts
 
--- src/lib.rt:38:18
 enum-known-root : tie.Need-enum-known-root
 enum-known-root c = search needs
 
--- src/lib.rt:39:23
 enum-told : tie.Need-enum-told
 enum-told c = search needs
 
--- src/lib.rt:40:25
 enum-told-2 : tie.Need-enum-told-2
 enum-told-2 c = search needs
 
--- src/lib.rt:34:1
 returns : tie.Need-returns
 unfolding crowned
 returns c = rw (c .before .root .given .1)
 
--- src/lib.rt:34:1
 returns-2 : tie.Need-returns-2
 unfolding crowned
 returns-2 c = rw (c .enum-told .given .1)
 
--- src/lib.rt:34:1
 returns-3 : tie.Need-returns-3
 unfolding crowned
 returns-3 c = rw (c .enum-told2 .given .1)

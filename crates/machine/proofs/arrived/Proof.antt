@@ -8,12 +8,10 @@ use Rattle.machine.proofs.arrived.Tie as tie
 use Rattle.machine.proofs.arrived.Reads as reads
 use Rattle.machine.proofs.arrived.Lts as lts
 
--- src/lib.rt:157:9
 returns : tie.Need-returns
 unfolding arrivedOf
 returns c = no-eq _ _ _ _ _ (c .if1 .taken) (refl)
 
--- src/lib.rt:153:1
 returns-2 : tie.Need-returns-2
 unfolding arrivedOf
 returns-2 c = yes-eq _ _ _ _ _ (c .if1 .left) (refl)

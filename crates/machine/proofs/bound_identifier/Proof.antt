@@ -12,53 +12,41 @@ use Rattle.machine.proofs.list.Reads as list-reads
 use Rattle.machine.proofs.make.Reads as make-reads
 use Rattle.machine.proofs.read.Reads as read-reads
 
--- src/lib.rt:593:9
 returns : tie.Need-returns
 unfolding boundIdentifierOf
 returns c = no-eq _ _ _ _ _ (c .if1 .taken) (refl)
 
--- src/lib.rt:597:53
 sub-read : tie.Need-sub-read
 sub-read c = search needs
 
--- src/lib.rt:597:53
 sub-read-2 : tie.Need-sub-read-2
 sub-read-2 c = search needs
 
--- src/lib.rt:597:25
 read-requires : tie.Need-read-requires
 read-requires c κs = search needs
 
--- src/lib.rt:598:9
 gave-requires : tie.Need-gave-requires
 gave-requires c κs = search needs
 
--- src/lib.rt:598:9
 same-length : tie.Need-same-length
 same-length c = search needs
 
--- src/lib.rt:598:9
 returns-2 : tie.Need-returns-2
 unfolding boundIdentifierOf
 returns-2 c = yes-eq _ _ _ _ _ (c .before .before .before .before .if1 .left) (yes-lt _ _ _ _ _ (c .before .before .before .if2 .taken) (step _ _ _ _ (c .before .read .ensures) (step _ _ _ _ (c .gave .ensures) (refl))))
 
--- src/lib.rt:600:9
 list-requires : tie.Need-list-requires
 list-requires c κs = search needs
 
--- src/lib.rt:601:5
 make-requires : tie.Need-make-requires
 make-requires c κs = search needs
 
--- src/lib.rt:582:1
 same-length-2 : tie.Need-same-length-2
 same-length-2 c = search needs
 
--- src/lib.rt:582:1
 same-length-3 : tie.Need-same-length-3
 same-length-3 c = search needs
 
--- src/lib.rt:582:1
 returns-3 : tie.Need-returns-3
 unfolding boundIdentifierOf
 returns-3 c = yes-eq _ _ _ _ _ (c .before .before .before .before .before .before .before .before .before .if1 .left) (no-lt _ _ _ _ _ (c .before .before .before .before .before .before .before .before .if2 .left) (step _ _ _ _ (c .before .before .before .before .before .before .list .ensures _ _) (c .before .before .make .ensures _)))

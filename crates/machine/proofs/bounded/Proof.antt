@@ -8,12 +8,10 @@ use Rattle.machine.proofs.bounded.Tie as tie
 use Rattle.machine.proofs.bounded.Reads as reads
 use Rattle.machine.proofs.bounded.Lts as lts
 
--- src/lib.rt:169:9
 returns : tie.Need-returns
 unfolding boundOf
 returns c = no-eq _ _ _ _ _ (c .if1 .taken) (refl)
 
--- src/lib.rt:165:1
 returns-2 : tie.Need-returns-2
 unfolding boundOf
 returns-2 c = yes-eq _ _ _ _ _ (c .if1 .left) (refl)

@@ -8,35 +8,28 @@ use Rattle.machine.proofs.chosen.Tie as tie
 use Rattle.machine.proofs.chosen.Reads as reads
 use Rattle.machine.proofs.chosen.Lts as lts
 
--- src/lib.rt:1091:9
 returns : tie.Need-returns
 unfolding chosenOf
 returns c = yes-eq _ _ _ _ _ (c .if1 .taken) (refl)
 
--- src/lib.rt:1094:9
 returns-2 : tie.Need-returns-2
 unfolding chosenOf
 returns-2 c = no-eq _ _ _ _ _ (c .before .before .if1 .left) (yes-eq _ _ _ _ _ (c .before .if2 .taken) (refl))
 
--- src/lib.rt:1097:9
 returns-3 : tie.Need-returns-3
 unfolding chosenOf
 returns-3 c = no-eq _ _ _ _ _ (c .before .before .before .if1 .left) (no-eq _ _ _ _ _ (c .before .before .if2 .left) (yes-eq _ _ _ _ _ (c .before .if3 .taken) (refl)))
 
--- src/lib.rt:1101:32
 sub-t6 : tie.Need-sub-t6
 sub-t6 c = search needs
 
--- src/lib.rt:1101:24
 add-t7 : tie.Need-add-t7
 add-t7 c = search needs
 
--- src/lib.rt:1101:9
 returns-4 : tie.Need-returns-4
 unfolding chosenOf
 returns-4 c = no-eq _ _ _ _ _ (c .before .before .before .if1 .left) (no-eq _ _ _ _ _ (c .before .before .if2 .left) (no-eq _ _ _ _ _ (c .before .if3 .left) (yes-lt _ _ _ _ _ (c .if4 .taken) (refl))))
 
--- src/lib.rt:1087:1
 returns-5 : tie.Need-returns-5
 unfolding chosenOf
 returns-5 c = no-eq _ _ _ _ _ (c .before .before .before .if1 .left) (no-eq _ _ _ _ _ (c .before .before .if2 .left) (no-eq _ _ _ _ _ (c .before .if3 .left) (no-lt _ _ _ _ _ (c .if4 .left) (refl))))

@@ -10,42 +10,33 @@ use Rattle.machine.proofs.emit.Lts as lts
 use Rattle.machine.proofs.overfull.Reads as overfull-reads
 use Rattle.machine.proofs.written.Reads as written-reads
 
--- src/lib.rt:299:9
 returns : tie.Need-returns
 unfolding emitOf
 returns c = λ size w. no-eq _ _ _ _ _ (c .if1 .taken) (refl)
 
--- src/lib.rt:302:9
 returns-2 : tie.Need-returns-2
 unfolding emitOf
 returns-2 c = λ size w. yes-eq _ _ _ _ _ (c .before .if1 .left) (yes-if _ _ _ _ (c .if2 .taken) (refl))
 
--- src/lib.rt:306:9
 slice-write-output : tie.Need-slice-write-output
 slice-write-output c = search needs
 
--- src/lib.rt:307:24
 add-written : tie.Need-add-written
 add-written c = search needs
 
--- src/lib.rt:307:9
 written-requires : tie.Need-written-requires
 written-requires c κs = search needs
 
--- src/lib.rt:307:9
 same-length : tie.Need-same-length
 same-length c = search needs
 
--- src/lib.rt:307:9
 returns-3 : tie.Need-returns-3
 unfolding emitOf
 returns-3 c = λ size w. yes-eq _ _ _ _ _ (c .before .before .before .if1 .left) (no-if _ _ _ _ (c .before .before .if2 .left) (yes-lt _ _ _ _ _ (c .before .if3 .taken) (step _ _ _ _ (c .written .ensures) (refl))))
 
--- src/lib.rt:309:5
 overfull-requires : tie.Need-overfull-requires
 overfull-requires c κs = search needs
 
--- src/lib.rt:295:1
 returns-4 : tie.Need-returns-4
 unfolding emitOf
 returns-4 c = λ size w. yes-eq _ _ _ _ _ (c .before .before .before .if1 .left) (no-if _ _ _ _ (c .before .before .if2 .left) (no-lt _ _ _ _ _ (c .before .if3 .left) (step _ _ _ _ (c .overfull .ensures) (refl))))

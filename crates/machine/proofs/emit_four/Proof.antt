@@ -9,19 +9,15 @@ use Rattle.machine.proofs.emit_four.Reads as reads
 use Rattle.machine.proofs.emit_four.Lts as lts
 use Rattle.machine.proofs.emit_two.Reads as emit-two-reads
 
--- src/lib.rt:324:9
 emit-two-requires : tie.Need-emit-two-requires
 emit-two-requires c κs = search needs
 
--- src/lib.rt:325:5
 emit-two-requires-2 : tie.Need-emit-two-requires-2
 emit-two-requires-2 c κs = search needs
 
--- src/lib.rt:321:1
 same-length : tie.Need-same-length
 same-length c = search needs
 
--- src/lib.rt:321:1
 returns : tie.Need-returns
 unfolding fourOf
 returns c = λ size w. step _ _ _ _ (c .before .before .before .before .before .before .emit-two .ensures _ _) (c .before .before .emit-two2 .ensures _ _)

@@ -9,27 +9,21 @@ use Rattle.machine.proofs.emit_two.Reads as reads
 use Rattle.machine.proofs.emit_two.Lts as lts
 use Rattle.machine.proofs.emit.Reads as emit-reads
 
--- src/lib.rt:316:26
 cast-emit : tie.Need-cast-emit
 cast-emit c = search needs
 
--- src/lib.rt:316:9
 emit-requires : tie.Need-emit-requires
 emit-requires c κs = search needs
 
--- src/lib.rt:317:18
 cast-emit-2 : tie.Need-cast-emit-2
 cast-emit-2 c = search needs
 
--- src/lib.rt:317:5
 emit-requires-2 : tie.Need-emit-requires-2
 emit-requires-2 c κs = search needs
 
--- src/lib.rt:313:1
 same-length : tie.Need-same-length
 same-length c = search needs
 
--- src/lib.rt:313:1
 returns : tie.Need-returns
 unfolding twoOf
 returns c = λ size w. step _ _ _ _ (c .before .before .before .before .before .before .emit .ensures _ _) (c .before .before .emit2 .ensures _ _)

@@ -11,45 +11,35 @@ use Rattle.machine.proofs.met.Reads as met-reads
 use Rattle.machine.proofs.put.Reads as put-reads
 use Rattle.machine.proofs.stopped.Reads as stopped-reads
 
--- src/lib.rt:452:9
 returns : tie.Need-returns
 unfolding enrolOf
 returns c = λ out. no-eq _ _ _ _ _ (c .if1 .taken) (refl)
 
--- src/lib.rt:457:9
 put-requires : tie.Need-put-requires
 put-requires c κs = search needs
 
--- src/lib.rt:458:9
 put-requires-2 : tie.Need-put-requires-2
 put-requires-2 c κs = search needs
 
--- src/lib.rt:459:9
 put-requires-3 : tie.Need-put-requires-3
 put-requires-3 c κs = search needs
 
--- src/lib.rt:460:20
 add-met : tie.Need-add-met
 add-met c = search needs
 
--- src/lib.rt:460:9
 met-requires : tie.Need-met-requires
 met-requires c κs = search needs
 
--- src/lib.rt:460:9
 same-length : tie.Need-same-length
 same-length c = search needs
 
--- src/lib.rt:460:9
 returns-2 : tie.Need-returns-2
 unfolding enrolOf
 returns-2 c = λ out. yes-eq _ _ _ _ _ (c .before .before .before .before .before .before .before .before .before .before .before .before .before .before .before .if1 .left) (yes-lt _ _ _ _ _ (c .before .before .before .before .before .before .before .before .before .before .before .before .before .before .if2 .taken) (step _ _ _ _ (c .before .before .before .before .before .before .before .before .before .before .before .put .ensures _ _) (step _ _ _ _ (c .before .before .before .before .before .before .before .put2 .ensures _ _) (step _ _ _ _ (c .before .before .before .put3 .ensures _ _) (step _ _ _ _ (c .met .ensures) (refl))))))
 
--- src/lib.rt:462:5
 stopped-requires : tie.Need-stopped-requires
 stopped-requires c κs = search needs
 
--- src/lib.rt:448:1
 returns-3 : tie.Need-returns-3
 unfolding enrolOf
 returns-3 c = λ out. yes-eq _ _ _ _ _ (c .before .before .if1 .left) (no-lt _ _ _ _ _ (c .before .if2 .left) (step _ _ _ _ (c .stopped .ensures) (refl)))

@@ -10,29 +10,23 @@ use Rattle.machine.proofs.enter.Lts as lts
 use Rattle.machine.proofs.paid.Reads as paid-reads
 use Rattle.machine.proofs.stopped.Reads as stopped-reads
 
--- src/lib.rt:259:9
 paid-requires : tie.Need-paid-requires
 paid-requires c κs = search needs
 
--- src/lib.rt:261:9
 returns : tie.Need-returns
 unfolding enterOf
 returns c = step _ _ _ _ (c .before .before .paid .ensures) (no-eq _ _ _ _ _ (c .if1 .taken) (refl))
 
--- src/lib.rt:266:19
 add-w : tie.Need-add-w
 add-w c = search needs
 
--- src/lib.rt:267:9
 returns-2 : tie.Need-returns-2
 unfolding enterOf
 returns-2 c = step _ _ _ _ (c .before .before .before .paid .ensures) (yes-eq _ _ _ _ _ (c .before .if1 .left) (yes-lt _ _ _ _ _ (c .if2 .taken) (refl)))
 
--- src/lib.rt:269:5
 stopped-requires : tie.Need-stopped-requires
 stopped-requires c κs = search needs
 
--- src/lib.rt:256:1
 returns-3 : tie.Need-returns-3
 unfolding enterOf
 returns-3 c = step _ _ _ _ (c .before .before .before .before .paid .ensures) (yes-eq _ _ _ _ _ (c .before .before .if1 .left) (no-lt _ _ _ _ _ (c .before .if2 .left) (c .stopped .ensures)))

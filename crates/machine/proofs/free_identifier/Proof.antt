@@ -15,82 +15,63 @@ use Rattle.machine.proofs.placed.Reads as placed-reads
 use Rattle.machine.proofs.read.Reads as read-reads
 use Rattle.machine.proofs.remember.Reads as remember-reads
 
--- src/lib.rt:570:9
 returns : tie.Need-returns
 unfolding freeOf
 returns c = λ out. no-eq _ _ _ _ _ (c .if1 .taken) (refl)
 
--- src/lib.rt:572:9
 read-requires : tie.Need-read-requires
 read-requires c κs = search needs
 
--- src/lib.rt:574:25
 read-requires-2 : tie.Need-read-requires-2
 read-requires-2 c κs = search needs
 
--- src/lib.rt:575:9
 gave-requires : tie.Need-gave-requires
 gave-requires c κs = search needs
 
--- src/lib.rt:575:9
 same-length : tie.Need-same-length
 same-length c = search needs
 
--- src/lib.rt:575:9
 returns-2 : tie.Need-returns-2
 unfolding freeOf
 returns-2 c = λ out. yes-eq _ _ _ _ _ (c .before .before .before .before .before .before .if1 .left) (step _ _ _ _ (c .before .before .before .before .read .ensures) (no-eq _ _ _ _ _ (c .before .before .before .if2 .taken) (step _ _ _ _ (c .before .read2 .ensures) (step _ _ _ _ (c .gave .ensures) (refl)))))
 
--- src/lib.rt:577:9
 read-requires-3 : tie.Need-read-requires-3
 read-requires-3 c κs = search needs
 
--- src/lib.rt:579:13
 make-requires : tie.Need-make-requires
 make-requires c κs = search needs
 
--- src/lib.rt:580:13
 remember-requires : tie.Need-remember-requires
 remember-requires c κs = search needs
 
--- src/lib.rt:581:9
 enrol-requires : tie.Need-enrol-requires
 enrol-requires c κs = search needs
 
--- src/lib.rt:581:9
 same-length-2 : tie.Need-same-length-2
 same-length-2 c = omega (arith, c .before .before .enrol .kept .0, c .before .before .before .before .before .before .remember .kept .0, c .before .before .before .before .before .before .before .before .before .before .make .kept .0)
 
--- src/lib.rt:581:9
 returns-3 : tie.Need-returns-3
 unfolding freeOf
 returns-3 c = λ out. yes-eq _ _ _ _ _ (c .before .before .before .before .before .before .before .before .before .before .before .before .before .before .before .before .before .before .if1 .left) (step _ _ _ _ (c .before .before .before .before .before .before .before .before .before .before .before .before .before .before .before .before .read .ensures) (yes-eq _ _ _ _ _ (c .before .before .before .before .before .before .before .before .before .before .before .before .before .before .before .if2 .left) (step _ _ _ _ (c .before .before .before .before .before .before .before .before .before .before .before .before .before .read3 .ensures) (yes-eq _ _ _ _ _ (c .before .before .before .before .before .before .before .before .before .before .before .before .if3 .taken) (step _ _ _ _ (c .before .before .before .before .before .before .before .before .before .before .make .ensures _) (step _ _ _ _ (c .before .before .before .before .before .before .remember .ensures _) (c .before .before .enrol .ensures _)))))))
 
--- src/lib.rt:584:26
 sub-t30 : tie.Need-sub-t30
 sub-t30 c = search needs
 
--- src/lib.rt:584:9
 placed-requires : tie.Need-placed-requires
 placed-requires c κs = search needs
 
--- src/lib.rt:585:9
 lift-requires : tie.Need-lift-requires
 lift-requires c κs = search needs
 
--- src/lib.rt:586:9
 remember-requires-2 : tie.Need-remember-requires-2
 remember-requires-2 c κs = search needs
 
--- src/lib.rt:587:5
 placed-requires-2 : tie.Need-placed-requires-2
 placed-requires-2 c κs = search needs
 
--- src/lib.rt:559:1
 same-length-3 : tie.Need-same-length-3
 same-length-3 c = omega (arith, c .before .before .before .remember2 .kept .0, c .before .before .before .before .before .before .before .lift .kept .1 .0)
 
--- src/lib.rt:559:1
 returns-4 : tie.Need-returns-4
 unfolding freeOf
 returns-4 c = λ out. yes-eq _ _ _ _ _ (c .before .before .before .before .before .before .before .before .before .before .before .before .before .before .before .before .before .if1 .left) (step _ _ _ _ (c .before .before .before .before .before .before .before .before .before .before .before .before .before .before .before .read .ensures) (yes-eq _ _ _ _ _ (c .before .before .before .before .before .before .before .before .before .before .before .before .before .before .if2 .left) (step _ _ _ _ (c .before .before .before .before .before .before .before .before .before .before .before .before .read3 .ensures) (no-eq _ _ _ _ _ (c .before .before .before .before .before .before .before .before .before .before .before .if3 .left) (step _ _ _ _ (c .before .before .before .before .before .before .before .before .before .placed .ensures) (step _ _ _ _ (c .before .before .before .before .before .before .before .lift .ensures _) (step _ _ _ _ (c .before .before .before .remember2 .ensures _) (step _ _ _ _ (c .placed2 .ensures) (refl)))))))))

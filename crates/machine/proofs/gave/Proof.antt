@@ -8,12 +8,10 @@ use Rattle.machine.proofs.gave.Tie as tie
 use Rattle.machine.proofs.gave.Reads as reads
 use Rattle.machine.proofs.gave.Lts as lts
 
--- src/lib.rt:145:9
 returns : tie.Need-returns
 unfolding gaveOf
 returns c = no-eq _ _ _ _ _ (c .if1 .taken) (refl)
 
--- src/lib.rt:141:1
 returns-2 : tie.Need-returns-2
 unfolding gaveOf
 returns-2 c = yes-eq _ _ _ _ _ (c .if1 .left) (refl)

@@ -9,25 +9,20 @@ use Rattle.machine.proofs.grown.Reads as reads
 use Rattle.machine.proofs.grown.Lts as lts
 use Rattle.machine.proofs.stopped.Reads as stopped-reads
 
--- src/lib.rt:229:9
 returns : tie.Need-returns
 unfolding grownOf
 returns c = no-eq _ _ _ _ _ (c .if1 .taken) (refl)
 
--- src/lib.rt:234:19
 add-v : tie.Need-add-v
 add-v c = search needs
 
--- src/lib.rt:236:9
 returns-2 : tie.Need-returns-2
 unfolding grownOf
 returns-2 c = yes-eq _ _ _ _ _ (c .before .if1 .left) (yes-lt _ _ _ _ _ (c .if2 .taken) (refl))
 
--- src/lib.rt:238:5
 stopped-requires : tie.Need-stopped-requires
 stopped-requires c κs = search needs
 
--- src/lib.rt:225:1
 returns-3 : tie.Need-returns-3
 unfolding grownOf
 returns-3 c = yes-eq _ _ _ _ _ (c .before .before .if1 .left) (no-lt _ _ _ _ _ (c .before .if2 .left) (c .stopped .ensures))

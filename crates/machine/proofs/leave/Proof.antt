@@ -10,28 +10,22 @@ use Rattle.machine.proofs.leave.Lts as lts
 use Rattle.machine.proofs.arrived.Reads as arrived-reads
 use Rattle.machine.proofs.put.Reads as put-reads
 
--- src/lib.rt:426:9
 returns : tie.Need-returns
 unfolding leaveOf
 returns c = λ out. no-eq _ _ _ _ _ (c .if1 .taken) (refl)
 
--- src/lib.rt:429:5
 put-requires : tie.Need-put-requires
 put-requires c κs = search needs
 
--- src/lib.rt:430:5
 put-requires-2 : tie.Need-put-requires-2
 put-requires-2 c κs = search needs
 
--- src/lib.rt:431:5
 arrived-requires : tie.Need-arrived-requires
 arrived-requires c κs = search needs
 
--- src/lib.rt:422:1
 same-length : tie.Need-same-length
 same-length c = search needs
 
--- src/lib.rt:422:1
 returns-2 : tie.Need-returns-2
 unfolding leaveOf
 returns-2 c = λ out. yes-eq _ _ _ _ _ (c .before .before .before .before .before .before .before .before .before .before .if1 .left) (step _ _ _ _ (c .before .before .before .before .before .before .before .put .ensures _ _) (step _ _ _ _ (c .before .before .before .put2 .ensures _ _) (step _ _ _ _ (c .arrived .ensures) (refl))))

@@ -8,12 +8,10 @@ use Rattle.machine.proofs.left_with.Tie as tie
 use Rattle.machine.proofs.left_with.Reads as reads
 use Rattle.machine.proofs.left_with.Lts as lts
 
--- src/lib.rt:193:9
 returns : tie.Need-returns
 unfolding leftOf
 returns c = no-eq _ _ _ _ _ (c .if1 .taken) (refl)
 
--- src/lib.rt:189:1
 returns-2 : tie.Need-returns-2
 unfolding leftOf
 returns-2 c = yes-eq _ _ _ _ _ (c .if1 .left) (refl)

@@ -11,27 +11,21 @@ use Rattle.machine.proofs.emit.Reads as emit-reads
 use Rattle.machine.proofs.emit_four.Reads as emit-four-reads
 use Rattle.machine.proofs.emit_two.Reads as emit-two-reads
 
--- src/lib.rt:332:9
 emit-requires : tie.Need-emit-requires
 emit-requires c κs = search needs
 
--- src/lib.rt:333:9
 emit-requires-2 : tie.Need-emit-requires-2
 emit-requires-2 c κs = search needs
 
--- src/lib.rt:334:9
 emit-four-requires : tie.Need-emit-four-requires
 emit-four-requires c κs = search needs
 
--- src/lib.rt:335:5
 emit-two-requires : tie.Need-emit-two-requires
 emit-two-requires c κs = search needs
 
--- src/lib.rt:329:1
 same-length : tie.Need-same-length
 same-length c = search needs
 
--- src/lib.rt:329:1
 returns : tie.Need-returns
 unfolding listOf
 returns c = λ size w. step _ _ _ _ (c .before .before .before .before .before .before .before .before .before .before .before .before .before .before .emit .ensures _ _) (step _ _ _ _ (c .before .before .before .before .before .before .before .before .before .before .emit2 .ensures _ _) (step _ _ _ _ (c .before .before .before .before .before .before .emit-four .ensures _ _) (c .before .before .emit-two .ensures _ _)))

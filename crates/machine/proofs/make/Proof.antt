@@ -15,62 +15,48 @@ use Rattle.machine.proofs.grown.Reads as grown-reads
 use Rattle.machine.proofs.push.Reads as push-reads
 use Rattle.machine.proofs.stopped.Reads as stopped-reads
 
--- src/lib.rt:393:9
 returns : tie.Need-returns
 unfolding makeOf
 returns c = λ out. no-eq _ _ _ _ _ (c .if1 .taken) (refl)
 
--- src/lib.rt:395:9
 push-requires : tie.Need-push-requires
 push-requires c κs = search needs
 
--- src/lib.rt:397:18
 enum-known-made : tie.Need-enum-known-made
 enum-known-made c = search needs
 
--- src/lib.rt:397:24
 grown-requires : tie.Need-grown-requires
 grown-requires c κs = search needs
 
--- src/lib.rt:398:23
 enum-told : tie.Need-enum-told
 enum-told c = search needs
 
--- src/lib.rt:398:23
 stopped-requires : tie.Need-stopped-requires
 stopped-requires c κs = search needs
 
--- src/lib.rt:399:25
 enum-told-2 : tie.Need-enum-told-2
 enum-told-2 c = search needs
 
--- src/lib.rt:399:25
 stopped-requires-2 : tie.Need-stopped-requires-2
 stopped-requires-2 c κs = search needs
 
--- src/lib.rt:389:1
 same-length : tie.Need-same-length
 same-length c = search needs
 
--- src/lib.rt:389:1
 returns-2 : tie.Need-returns-2
 unfolding makeOf
 returns-2 c = λ out. yes-eq _ _ _ _ _ (c .before .before .before .before .before .before .before .before .if1 .left) (made-at (c .before .before .before .before .before .before .before .before .before .before .before .args .size) (c .before .before .before .before .before .before .before .before .before .before .before .args .st) (c .grown .result) (c .before .before .before .before .before .before .before .before .before .before .before .args .work .now) (c .before .before .before .before .before .before .push .last .0) out (c .before .before .before .before .before .before .push .ensures .1) _ _ (ap (λ (x : Made). made x (take (c .before .before .before .before .before .before .before .before .before .before .before .args .size) (c .before .before .before .before .before .before .push .last .0))) (sym (c .before .before .made .given .1)) ∙ c .before .before .before .before .before .before .push .ensures .0) (c .grown .ensures))
 
--- src/lib.rt:389:1
 same-length-2 : tie.Need-same-length-2
 same-length-2 c = search needs
 
--- src/lib.rt:389:1
 returns-3 : tie.Need-returns-3
 unfolding makeOf
 returns-3 c = λ out. yes-eq _ _ _ _ _ (c .before .before .before .before .before .before .before .if1 .left) (made-full (c .before .before .before .before .before .before .before .before .before .before .args .size) (c .before .before .before .before .before .before .before .before .before .before .args .st) (c .stopped .result) (c .before .before .before .before .before .before .before .before .before .before .args .work .now) (c .before .before .before .before .before .push .last .0) out (c .before .before .before .before .before .push .ensures .1) _ (ap (λ (x : Made). made x (take (c .before .before .before .before .before .before .before .before .before .before .args .size) (c .before .before .before .before .before .push .last .0))) (sym (c .before .enum-told .given .1)) ∙ c .before .before .before .before .before .push .ensures .0) (c .stopped .ensures))
 
--- src/lib.rt:389:1
 same-length-3 : tie.Need-same-length-3
 same-length-3 c = search needs
 
--- src/lib.rt:389:1
 returns-4 : tie.Need-returns-4
 unfolding makeOf
 returns-4 c = λ out. yes-eq _ _ _ _ _ (c .before .before .before .before .before .before .before .if1 .left) (made-broken (c .before .before .before .before .before .before .before .before .before .before .args .size) (c .before .before .before .before .before .before .before .before .before .before .args .st) (c .stopped2 .result) (c .before .before .before .before .before .before .before .before .before .before .args .work .now) (c .before .before .before .before .before .push .last .0) out (c .before .before .before .before .before .push .ensures .1) _ (ap (λ (x : Made). made x (take (c .before .before .before .before .before .before .before .before .before .before .args .size) (c .before .before .before .before .before .push .last .0))) (sym (c .before .enum-told2 .given .1)) ∙ c .before .before .before .before .before .push .ensures .0) (c .stopped2 .ensures))

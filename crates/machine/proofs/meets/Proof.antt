@@ -10,23 +10,18 @@ use Rattle.machine.proofs.meets.Lts as lts
 use Rattle.machine.proofs.expect.Reads as expect-reads
 use Rattle.machine.proofs.lift.Reads as lift-reads
 
--- src/lib.rt:711:9
 lift-requires : tie.Need-lift-requires
 lift-requires c κs = search needs
 
--- src/lib.rt:713:5
 expect-requires : tie.Need-expect-requires
 expect-requires c κs = search needs
 
--- src/lib.rt:700:1
 same-length : tie.Need-same-length
 same-length c = omega (arith, c .before .before .before .before .expect .kept .0, c .before .before .before .before .expect .kept .1 .0, c .before .before .before .before .before .before .before .before .before .before .lift .kept .1 .0)
 
--- src/lib.rt:700:1
 same-length-2 : tie.Need-same-length-2
 same-length-2 c = omega (arith, c .before .before .before .before .expect .kept .0, c .before .before .before .before .expect .kept .1 .0, c .before .before .before .before .before .before .before .before .before .before .lift .kept .1 .0)
 
--- src/lib.rt:700:1
 returns : tie.Need-returns
 unfolding meetsOf
 returns c = step _ _ _ _ (c .before .before .before .before .before .before .before .before .before .before .lift .ensures _) (c .before .before .before .before .expect .ensures)

@@ -8,12 +8,10 @@ use Rattle.machine.proofs.met.Tie as tie
 use Rattle.machine.proofs.met.Reads as reads
 use Rattle.machine.proofs.met.Lts as lts
 
--- src/lib.rt:181:9
 returns : tie.Need-returns
 unfolding metOf
 returns c = no-eq _ _ _ _ _ (c .if1 .taken) (refl)
 
--- src/lib.rt:177:1
 returns-2 : tie.Need-returns-2
 unfolding metOf
 returns-2 c = yes-eq _ _ _ _ _ (c .if1 .left) (refl)

@@ -12,49 +12,38 @@ use Rattle.machine.proofs.free_identifier.Reads as free-identifier-read
 use Rattle.machine.proofs.make.Reads as make-reads
 use Rattle.machine.proofs.read.Reads as read-reads
 
--- src/lib.rt:626:9
 returns : tie.Need-returns
 unfolding noteOf
 returns c = no-eq _ _ _ _ _ (c .if1 .taken) (refl)
 
--- src/lib.rt:628:9
 read-requires : tie.Need-read-requires
 read-requires c κs = search needs
 
--- src/lib.rt:630:9
 same-length : tie.Need-same-length
 same-length c = search needs
 
--- src/lib.rt:630:9
 returns-2 : tie.Need-returns-2
 unfolding noteOf
 returns-2 c = yes-eq _ _ _ _ _ (c .before .before .before .if1 .left) (step _ _ _ _ (c .before .read .ensures) (no-eq _ _ _ _ _ (c .if2 .taken) (refl)))
 
--- src/lib.rt:632:9
 free-identifier-requires : tie.Need-free-identifier-requires
 free-identifier-requires c κs = search needs
 
--- src/lib.rt:634:9
 make-requires : tie.Need-make-requires
 make-requires c κs = search needs
 
--- src/lib.rt:636:9
 make-requires-2 : tie.Need-make-requires-2
 make-requires-2 c κs = search needs
 
--- src/lib.rt:638:5
 expect-requires : tie.Need-expect-requires
 expect-requires c κs = search needs
 
--- src/lib.rt:614:1
 same-length-2 : tie.Need-same-length-2
 same-length-2 c = omega (arith, c .before .before .before .before .expect .kept .0, c .before .before .before .before .expect .kept .1 .0, c .before .before .before .before .before .before .before .before .before .before .make2 .kept .0, c .before .before .before .before .before .before .before .before .before .before .before .before .before .before .before .make .kept .0, c .before .before .before .before .before .before .before .before .before .before .before .before .before .before .before .before .before .before .before .before .free-identifier .kept .1 .0)
 
--- src/lib.rt:614:1
 same-length-3 : tie.Need-same-length-3
 same-length-3 c = omega (arith, c .before .before .before .before .expect .kept .0, c .before .before .before .before .expect .kept .1 .0, c .before .before .before .before .before .before .before .before .before .before .make2 .kept .0, c .before .before .before .before .before .before .before .before .before .before .before .before .before .before .before .make .kept .0, c .before .before .before .before .before .before .before .before .before .before .before .before .before .before .before .before .before .before .before .before .free-identifier .kept .1 .0)
 
--- src/lib.rt:614:1
 returns-3 : tie.Need-returns-3
 unfolding noteOf
 returns-3 c = yes-eq _ _ _ _ _ (c .before .before .before .before .before .before .before .before .before .before .before .before .before .before .before .before .before .before .before .before .before .before .before .before .before .if1 .left) (step _ _ _ _ (c .before .before .before .before .before .before .before .before .before .before .before .before .before .before .before .before .before .before .before .before .before .before .before .read .ensures) (yes-eq _ _ _ _ _ (c .before .before .before .before .before .before .before .before .before .before .before .before .before .before .before .before .before .before .before .before .before .before .if2 .left) (step _ _ _ _ (c .before .before .before .before .before .before .before .before .before .before .before .before .before .before .before .before .before .before .before .before .free-identifier .ensures _) (step _ _ _ _ (c .before .before .before .before .before .before .before .before .before .before .before .before .before .before .before .make .ensures _) (step _ _ _ _ (c .before .before .before .before .before .before .before .before .before .before .make2 .ensures _) (c .before .before .before .before .expect .ensures))))))

@@ -8,12 +8,10 @@ use Rattle.machine.proofs.overfull.Tie as tie
 use Rattle.machine.proofs.overfull.Reads as reads
 use Rattle.machine.proofs.overfull.Lts as lts
 
--- src/lib.rt:217:9
 returns : tie.Need-returns
 unfolding overOf
 returns c = no-eq _ _ _ _ _ (c .if1 .taken) (refl)
 
--- src/lib.rt:213:1
 returns-2 : tie.Need-returns-2
 unfolding overOf
 returns-2 c = yes-eq _ _ _ _ _ (c .if1 .left) (refl)

@@ -10,29 +10,23 @@ use Rattle.machine.proofs.paid.Lts as lts
 use Rattle.machine.proofs.left_with.Reads as left-with-reads
 use Rattle.machine.proofs.stopped.Reads as stopped-reads
 
--- src/lib.rt:246:9
 returns : tie.Need-returns
 unfolding paidOf
 returns c = no-eq _ _ _ _ _ (c .if1 .taken) (refl)
 
--- src/lib.rt:250:9
 stopped-requires : tie.Need-stopped-requires
 stopped-requires c κs = search needs
 
--- src/lib.rt:250:9
 returns-2 : tie.Need-returns-2
 unfolding paidOf
 returns-2 c = yes-eq _ _ _ _ _ (c .before .before .if1 .left) (yes-eq _ _ _ _ _ (c .before .if2 .taken) (c .stopped .ensures))
 
--- src/lib.rt:252:15
 sub-left-with : tie.Need-sub-left-with
 sub-left-with c = search needs
 
--- src/lib.rt:252:5
 left-with-requires : tie.Need-left-with-requires
 left-with-requires c κs = search needs
 
--- src/lib.rt:242:1
 returns-3 : tie.Need-returns-3
 unfolding paidOf
 returns-3 c = yes-eq _ _ _ _ _ (c .before .before .if1 .left) (no-eq _ _ _ _ _ (c .before .if2 .left) (c .left-with .ensures))

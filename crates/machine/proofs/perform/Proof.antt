@@ -12,48 +12,37 @@ use Rattle.machine.proofs.expect.Reads as expect-reads
 use Rattle.machine.proofs.make.Reads as make-reads
 use Rattle.machine.proofs.place_of.Reads as place-of-reads
 
--- src/lib.rt:1122:9
 chosen-requires : tie.Need-chosen-requires
 chosen-requires c κs = search needs
 
--- src/lib.rt:1123:9
 chosen-requires-2 : tie.Need-chosen-requires-2
 chosen-requires-2 c κs = search needs
 
--- src/lib.rt:1125:13
 place-of-requires : tie.Need-place-of-requires
 place-of-requires c κs = search needs
 
--- src/lib.rt:1126:9
 expect-requires : tie.Need-expect-requires
 expect-requires c κs = search needs
 
--- src/lib.rt:1126:9
 same-length : tie.Need-same-length
 same-length c = search needs
 
--- src/lib.rt:1126:9
 same-length-2 : tie.Need-same-length-2
 same-length-2 c = search needs
 
--- src/lib.rt:1126:9
 returns : tie.Need-returns
 unfolding itemOf
 returns c = step _ _ _ _ (c .before .before .before .before .before .before .before .before .before .before .before .chosen .ensures) (step _ _ _ _ (c .before .before .before .before .before .before .before .before .before .before .chosen2 .ensures) (yes-eq _ _ _ _ _ (c .before .before .before .before .before .before .before .before .if1 .taken) (step _ _ _ _ (c .before .before .before .before .before .before .before .place-of .ensures) (c .before .before .before .before .expect .ensures))))
 
--- src/lib.rt:1128:22
 cast-make : tie.Need-cast-make
 cast-make c = search needs
 
--- src/lib.rt:1128:5
 make-requires : tie.Need-make-requires
 make-requires c κs = search needs
 
--- src/lib.rt:1119:1
 same-length-3 : tie.Need-same-length-3
 same-length-3 c = search needs
 
--- src/lib.rt:1119:1
 returns-2 : tie.Need-returns-2
 unfolding itemOf
 returns-2 c = step _ _ _ _ (c .before .before .before .before .before .before .before .before .chosen .ensures) (step _ _ _ _ (c .before .before .before .before .before .before .before .chosen2 .ensures) (no-eq _ _ _ _ _ (c .before .before .before .before .before .if1 .left) (c .before .before .make .ensures _)))

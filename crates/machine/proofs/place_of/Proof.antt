@@ -8,17 +8,14 @@ use Rattle.machine.proofs.place_of.Tie as tie
 use Rattle.machine.proofs.place_of.Reads as reads
 use Rattle.machine.proofs.place_of.Lts as lts
 
--- src/lib.rt:1110:9
 returns : tie.Need-returns
 unfolding placeOf
 returns c = yes-eq _ _ _ _ _ (c .before .if1 .taken) (refl)
 
--- src/lib.rt:1113:9
 returns-2 : tie.Need-returns-2
 unfolding placeOf
 returns-2 c = no-eq _ _ _ _ _ (c .before .before .if1 .left) (yes-eq _ _ _ _ _ (c .before .if2 .taken) (refl))
 
--- src/lib.rt:1106:1
 returns-3 : tie.Need-returns-3
 unfolding placeOf
 returns-3 c = no-eq _ _ _ _ _ (c .before .before .if1 .left) (no-eq _ _ _ _ _ (c .before .if2 .left) (refl))

@@ -8,12 +8,10 @@ use Rattle.machine.proofs.placed.Tie as tie
 use Rattle.machine.proofs.placed.Reads as reads
 use Rattle.machine.proofs.placed.Lts as lts
 
--- src/lib.rt:133:9
 returns : tie.Need-returns
 unfolding placedOf
 returns c = no-eq _ _ _ _ _ (c .if1 .taken) (refl)
 
--- src/lib.rt:129:1
 returns-2 : tie.Need-returns-2
 unfolding placedOf
 returns-2 c = yes-eq _ _ _ _ _ (c .if1 .left) (refl)

@@ -24,59 +24,45 @@ Inv-loop work₀ output₀ size n p script until v₀ i₀ work output v i = (it
 abbrev μ-loop : tie.MeasureT-loop
 μ-loop work₀ output₀ size n p script until v₀ i₀ work output v i = until - i
 
--- src/lib.rt:1152:9
 script-at-requires : tie.Need-script-at-requires Inv-loop μ-loop
 script-at-requires c κs = search needs
 
--- src/lib.rt:1153:9
 small-requires : tie.Need-small-requires Inv-loop μ-loop
 small-requires c κs = search needs
 
--- src/lib.rt:1155:9
 small-requires-2 : tie.Need-small-requires-2 Inv-loop μ-loop
 small-requires-2 c κs = search needs
 
--- src/lib.rt:1156:5
 loop-holds : tie.Need-loop-holds Inv-loop μ-loop
 loop-holds c = (refl, refl, refl)
 
--- src/lib.rt:1157:41
 item-at-requires : tie.Need-item-at-requires Inv-loop μ-loop
 item-at-requires c κs = search needs
 
--- src/lib.rt:1157:9
 perform-requires : tie.Need-perform-requires Inv-loop μ-loop
 perform-requires c κs = search needs
 
--- src/lib.rt:1158:9
 add-i : tie.Need-add-i Inv-loop μ-loop
 add-i c = omega (arith, c .before .before .before .before .before .before .before .before .loop-test .taken, c .before .before .before .before .before .before .before .before .before .before .before .small .ensures .1)
 
--- src/lib.rt:1156:5
 loop-less : tie.Need-loop-less Inv-loop μ-loop
 loop-less c = omega (arith, c .before .before .before .before .before .before .before .before .loop-test .taken)
 
--- src/lib.rt:1156:5
 loop-again : tie.Need-loop-again Inv-loop μ-loop
 loop-again c = (items-more _ _ _ _ _ _ (c .before .before .before .before .before .before .before .before .loop-test .taken) (step _ _ _ _ (c .before .before .before .before .before .item-at .ensures) (c .before .before .before .before .perform .ensures)) (c .before .before .before .before .before .before .before .before .before .loop .inv .0), omega (arith, c .before .before .before .before .perform .kept .0, c .before .before .before .before .before .before .before .before .before .loop .inv .1), omega (arith, c .before .before .before .before .perform .kept .1 .0, c .before .before .before .before .before .before .before .before .before .loop .inv .2))
 
--- src/lib.rt:1160:9
 chosen-requires : tie.Need-chosen-requires Inv-loop μ-loop
 chosen-requires c κs = search needs
 
--- src/lib.rt:1161:5
 gave-requires : tie.Need-gave-requires Inv-loop μ-loop
 gave-requires c κs = search needs
 
--- src/lib.rt:1149:1
 same-length : tie.Need-same-length Inv-loop μ-loop
 same-length c = omega (arith, c .before .before .before .loop .inv .1)
 
--- src/lib.rt:1149:1
 same-length-2 : tie.Need-same-length-2 Inv-loop μ-loop
 same-length-2 c = omega (arith, c .before .before .before .loop .inv .2)
 
--- src/lib.rt:1149:1
 returns : tie.Need-returns Inv-loop μ-loop
 unfolding playOf
 returns c = step _ _ _ _ (c .before .before .before .before .before .before .script-at .ensures) (step _ _ _ _ (c .before .before .before .before .before .small .ensures .0) (step _ _ _ _ (c .before .before .before .before .small2 .ensures .0) (step _ _ _ _ (sym (items-none _ _ _ _ (c .before .before .loop-test .left)) ∙ c .before .before .before .loop .inv .0) (step _ _ _ _ (c .before .chosen .ensures) (step _ _ _ _ (c .gave .ensures) refl)))))

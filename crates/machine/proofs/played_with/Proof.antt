@@ -8,7 +8,6 @@ use Rattle.machine.proofs.played_with.Tie as tie
 use Rattle.machine.proofs.played_with.Reads as reads
 use Rattle.machine.proofs.played_with.Lts as lts
 
--- src/lib.rt:1148:1
 returns : tie.Need-returns
 unfolding partsOf
 returns c = refl

@@ -20,131 +20,99 @@ use Rattle.makers.proofs.int.Reads as int-reads
 use Rattle.makers.proofs.pow.Reads as pow-reads
 use Rattle.makers.proofs.prod.Reads as prod-reads
 
--- src/lib.rt:360:9
 within-requires : tie.Need-within-requires
 within-requires c κs = search needs
 
--- src/lib.rt:362:32
 slice-relend-prefix-fresh : tie.Need-slice-relend-prefix-fresh
 slice-relend-prefix-fresh c = search needs
 
--- src/lib.rt:362:32
 slice-aggregate-fresh : tie.Need-slice-aggregate-fresh
 slice-aggregate-fresh c = sym (length-take-le _ _ (c .before .before .within .ensures .1))
 
--- src/lib.rt:362:17
 fresh-requires : tie.Need-fresh-requires
 fresh-requires c κs = search needs
 
--- src/lib.rt:363:34
 slice-relend-prefix-boolean : tie.Need-slice-relend-prefix-boolean
 slice-relend-prefix-boolean c = search needs
 
--- src/lib.rt:363:34
 slice-aggregate-boolean : tie.Need-slice-aggregate-boolean
 slice-aggregate-boolean c = sym (length-take-le _ _ (c .before .before .within .ensures .1))
 
--- src/lib.rt:363:17
 boolean-requires : tie.Need-boolean-requires
 boolean-requires c κs = search needs
 
--- src/lib.rt:364:30
 slice-relend-prefix-int : tie.Need-slice-relend-prefix-int
 slice-relend-prefix-int c = search needs
 
--- src/lib.rt:364:30
 slice-aggregate-int : tie.Need-slice-aggregate-int
 slice-aggregate-int c = sym (length-take-le _ _ (c .before .before .within .ensures .1))
 
--- src/lib.rt:364:17
 int-requires : tie.Need-int-requires
 int-requires c κs = search needs
 
--- src/lib.rt:365:32
 slice-relend-prefix-given : tie.Need-slice-relend-prefix-given
 slice-relend-prefix-given c = search needs
 
--- src/lib.rt:365:32
 slice-aggregate-given : tie.Need-slice-aggregate-given
 slice-aggregate-given c = sym (length-take-le _ _ (c .before .before .within .ensures .1))
 
--- src/lib.rt:365:17
 given-requires : tie.Need-given-requires
 given-requires c κs = search needs
 
--- src/lib.rt:366:30
 slice-relend-prefix-pow : tie.Need-slice-relend-prefix-pow
 slice-relend-prefix-pow c = search needs
 
--- src/lib.rt:366:30
 slice-aggregate-pow : tie.Need-slice-aggregate-pow
 slice-aggregate-pow c = sym (length-take-le _ _ (c .before .before .within .ensures .1))
 
--- src/lib.rt:366:17
 pow-requires : tie.Need-pow-requires
 pow-requires c κs = search needs
 
--- src/lib.rt:367:31
 slice-relend-prefix-prod : tie.Need-slice-relend-prefix-prod
 slice-relend-prefix-prod c = search needs
 
--- src/lib.rt:367:31
 slice-aggregate-prod : tie.Need-slice-aggregate-prod
 slice-aggregate-prod c = sym (length-take-le _ _ (c .before .before .within .ensures .1))
 
--- src/lib.rt:367:17
 prod-requires : tie.Need-prod-requires
 prod-requires c κs = search needs
 
--- src/lib.rt:356:1
 same-length : tie.Need-same-length
 same-length c = search needs
 
--- src/lib.rt:356:1
 returns : tie.Need-returns
 returns c = lent-push (c .before .before .fresh .result) (c .before .before .before .before .before .before .before .args .size) (c .before .before .before .before .before .within .result) _ (c .before .before .before .before .before .before .before .args .work .now) (c .before .before .fresh .last .0) _ _ (lent (c .before .before .before .before .before .before .before .args .size) (c .before .before .before .before .before .within .result) (c .before .before .before .before .before .before .before .args .work .now) (c .before .before .fresh .last .0) (c .before .before .before .before .before .within .ensures .0) (c .before .before .fresh .kept .0)) (c .before .before .fresh .ensures) (ap (λ (k : ℕ). decode k (c .before .before .before .before .before .before .before .args .a) (c .before .before .before .before .before .before .before .args .b)) (sym (c .before .before .before .before .match .keys1)))
 
--- src/lib.rt:356:1
 same-length-2 : tie.Need-same-length-2
 same-length-2 c = search needs
 
--- src/lib.rt:356:1
 returns-2 : tie.Need-returns-2
 returns-2 c = lent-push (c .before .before .boolean .result) (c .before .before .before .before .before .before .before .args .size) (c .before .before .before .before .before .within .result) _ (c .before .before .before .before .before .before .before .args .work .now) (c .before .before .boolean .last .0) _ _ (lent (c .before .before .before .before .before .before .before .args .size) (c .before .before .before .before .before .within .result) (c .before .before .before .before .before .before .before .args .work .now) (c .before .before .boolean .last .0) (c .before .before .before .before .before .within .ensures .0) (c .before .before .boolean .kept .0)) (c .before .before .boolean .ensures) (ap (λ (k : ℕ). decode k (c .before .before .before .before .before .before .before .args .a) (c .before .before .before .before .before .before .before .args .b)) (sym (c .before .before .before .before .match .keys2)))
 
--- src/lib.rt:356:1
 same-length-3 : tie.Need-same-length-3
 same-length-3 c = search needs
 
--- src/lib.rt:356:1
 returns-3 : tie.Need-returns-3
 returns-3 c = lent-push (c .before .before .int .result) (c .before .before .before .before .before .before .before .args .size) (c .before .before .before .before .before .within .result) _ (c .before .before .before .before .before .before .before .args .work .now) (c .before .before .int .last .0) _ _ (lent (c .before .before .before .before .before .before .before .args .size) (c .before .before .before .before .before .within .result) (c .before .before .before .before .before .before .before .args .work .now) (c .before .before .int .last .0) (c .before .before .before .before .before .within .ensures .0) (c .before .before .int .kept .0)) (c .before .before .int .ensures) (ap (λ (k : ℕ). decode k (c .before .before .before .before .before .before .before .args .a) (c .before .before .before .before .before .before .before .args .b)) (sym (c .before .before .before .before .match .keys3)))
 
--- src/lib.rt:356:1
 same-length-4 : tie.Need-same-length-4
 same-length-4 c = search needs
 
--- src/lib.rt:356:1
 returns-4 : tie.Need-returns-4
 returns-4 c = lent-push (c .before .before .given .result) (c .before .before .before .before .before .before .before .args .size) (c .before .before .before .before .before .within .result) _ (c .before .before .before .before .before .before .before .args .work .now) (c .before .before .given .last .0) _ _ (lent (c .before .before .before .before .before .before .before .args .size) (c .before .before .before .before .before .within .result) (c .before .before .before .before .before .before .before .args .work .now) (c .before .before .given .last .0) (c .before .before .before .before .before .within .ensures .0) (c .before .before .given .kept .0)) (c .before .before .given .ensures) (ap (λ (k : ℕ). decode k (c .before .before .before .before .before .before .before .args .a) (c .before .before .before .before .before .before .before .args .b)) (sym (c .before .before .before .before .match .keys4)))
 
--- src/lib.rt:356:1
 same-length-5 : tie.Need-same-length-5
 same-length-5 c = search needs
 
--- src/lib.rt:356:1
 returns-5 : tie.Need-returns-5
 returns-5 c = lent-push (c .before .before .pow .result) (c .before .before .before .before .before .before .before .args .size) (c .before .before .before .before .before .within .result) _ (c .before .before .before .before .before .before .before .args .work .now) (c .before .before .pow .last .0) _ _ (lent (c .before .before .before .before .before .before .before .args .size) (c .before .before .before .before .before .within .result) (c .before .before .before .before .before .before .before .args .work .now) (c .before .before .pow .last .0) (c .before .before .before .before .before .within .ensures .0) (c .before .before .pow .kept .0)) (c .before .before .pow .ensures) (ap (λ (k : ℕ). decode k (c .before .before .before .before .before .before .before .args .a) (c .before .before .before .before .before .before .before .args .b)) (sym (c .before .before .before .before .match .keys5)))
 
--- src/lib.rt:356:1
 same-length-6 : tie.Need-same-length-6
 same-length-6 c = search needs
 
--- src/lib.rt:356:1
 returns-6 : tie.Need-returns-6
 returns-6 c = lent-push (c .before .before .prod .result) (c .before .before .before .before .before .before .before .args .size) (c .before .before .before .before .before .within .result) _ (c .before .before .before .before .before .before .before .args .work .now) (c .before .before .prod .last .0) _ _ (lent (c .before .before .before .before .before .before .before .args .size) (c .before .before .before .before .before .within .result) (c .before .before .before .before .before .before .before .args .work .now) (c .before .before .prod .last .0) (c .before .before .before .before .before .within .ensures .0) (c .before .before .prod .kept .0)) (c .before .before .prod .ensures) (ap (λ (k : ℕ). decode k (c .before .before .before .before .before .before .before .args .a) (c .before .before .before .before .before .before .before .args .b)) (sym (c .before .before .before .before .match .keys6)))
 
--- src/lib.rt:356:1
 returns-7 : tie.Need-returns-7
 returns-7 c = (sym (builds-no-other _ _ _ _ _ (c .match .rest .0 .0 .0 .0 .0 .1) (c .match .rest .0 .0 .0 .0 .1) (c .match .rest .0 .0 .0 .1) (c .match .rest .0 .0 .1) (c .match .rest .0 .1) (c .match .rest .1)), refl)
 

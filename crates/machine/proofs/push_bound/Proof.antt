@@ -11,37 +11,29 @@ use Rattle.machine.proofs.bounded.Reads as bounded-reads
 use Rattle.machine.proofs.put.Reads as put-reads
 use Rattle.machine.proofs.stopped.Reads as stopped-reads
 
--- src/lib.rt:470:9
 returns : tie.Need-returns
 unfolding pushBoundOf
 returns c = λ out. no-eq _ _ _ _ _ (c .if1 .taken) (refl)
 
--- src/lib.rt:475:9
 put-requires : tie.Need-put-requires
 put-requires c κs = search needs
 
--- src/lib.rt:476:24
 add-bounded : tie.Need-add-bounded
 add-bounded c = search needs
 
--- src/lib.rt:476:9
 bounded-requires : tie.Need-bounded-requires
 bounded-requires c κs = search needs
 
--- src/lib.rt:476:9
 same-length : tie.Need-same-length
 same-length c = search needs
 
--- src/lib.rt:476:9
 returns-2 : tie.Need-returns-2
 unfolding pushBoundOf
 returns-2 c = λ out. yes-eq _ _ _ _ _ (c .before .before .before .before .before .before .before .if1 .left) (yes-lt _ _ _ _ _ (c .before .before .before .before .before .before .if2 .taken) (step _ _ _ _ (c .before .before .before .put .ensures _ _) (step _ _ _ _ (c .bounded .ensures) (refl))))
 
--- src/lib.rt:478:5
 stopped-requires : tie.Need-stopped-requires
 stopped-requires c κs = search needs
 
--- src/lib.rt:466:1
 returns-3 : tie.Need-returns-3
 unfolding pushBoundOf
 returns-3 c = λ out. yes-eq _ _ _ _ _ (c .before .before .if1 .left) (no-lt _ _ _ _ _ (c .before .if2 .left) (step _ _ _ _ (c .stopped .ensures) (refl)))

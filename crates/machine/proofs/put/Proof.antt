@@ -15,31 +15,24 @@ use Rattle.machine.proofs.put.Reads as reads
 use Rattle.machine.proofs.put.Lts as lts
 use Rattle.machine.proofs.cell.Reads as cell-reads
 
--- src/lib.rt:294:29
 cell-requires : tie.Need-cell-requires
 cell-requires c κs = search needs
 
--- src/lib.rt:294:13
 add-i : tie.Need-add-i
 add-i c = search needs
 
--- src/lib.rt:296:9
 mul-work : tie.Need-mul-work
 mul-work c = search needs
 
--- src/lib.rt:296:9
 slice-write-work : tie.Need-slice-write-work
 slice-write-work c = search needs
 
--- src/lib.rt:291:1
 same-length : tie.Need-same-length
 same-length c = search needs
 
--- src/lib.rt:291:1
 returns : tie.Need-returns
 returns c = λ st out. ap (λ (i : ℕ). mach (c .before .before .before .args .size) st (set (c .before .before .before .args .work .now) (c .before .before .before .args .size + i) (c .before .before .before .args .value)) out) (c .before .cell .ensures .0) ∙ put-inside (c .before .before .before .args .size) (cell (c .before .before .before .args .area) (c .before .before .before .args .stride) (c .before .before .before .args .j) (c .before .before .before .args .k)) _ st (c .before .before .before .args .work .now) out
 
--- src/lib.rt:291:1
 returns-2 : tie.Need-returns-2
 returns-2 c = λ st out. put-outside (c .before .before .before .args .size) (cell (c .before .before .before .args .area) (c .before .before .before .args .stride) (c .before .before .before .args .j) (c .before .before .before .args .k)) _ st (c .before .before .before .args .work .now) out (omega (arith, c .if1 .left, c .before .cell .ensures .0))
 

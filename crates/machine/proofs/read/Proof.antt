@@ -14,27 +14,21 @@ use Rattle.machine.proofs.read.Reads as reads
 use Rattle.machine.proofs.read.Lts as lts
 use Rattle.machine.proofs.cell.Reads as cell-reads
 
--- src/lib.rt:286:29
 cell-requires : tie.Need-cell-requires
 cell-requires c κs = search needs
 
--- src/lib.rt:286:13
 add-i : tie.Need-add-i
 add-i c = search needs
 
--- src/lib.rt:287:25
 mul-result : tie.Need-mul-result
 mul-result c = search needs
 
--- src/lib.rt:287:25
 shared-slice-read-result : tie.Need-shared-slice-read-result
 shared-slice-read-result c = search needs
 
--- src/lib.rt:283:1
 returns : tie.Need-returns
 returns c = ap (λ (i : ℕ). getD (now (c .before .before .before .before .args .work)) (c .before .before .before .before .args .size + i) 0) (c .before .before .cell .ensures .0) ∙ sym (getD-drop (c .before .before .before .before .args .size) (now (c .before .before .before .before .args .work)) (cell (c .before .before .before .before .args .area) (c .before .before .before .before .args .stride) (c .before .before .before .before .args .j) (c .before .before .before .before .args .k)) 0)
 
--- src/lib.rt:283:1
 returns-2 : tie.Need-returns-2
 returns-2 c = sym (getD-drop (c .before .before .before .args .size) (now (c .before .before .before .args .work)) (cell (c .before .before .before .args .area) (c .before .before .before .args .stride) (c .before .before .before .args .j) (c .before .before .before .args .k)) 0 ∙ List·getD-eq-default (now (c .before .before .before .args .work)) 0 (omega (arith, c .if1 .left, c .before .cell .ensures .0)))
 

@@ -9,24 +9,19 @@ use Rattle.machine.proofs.remember.Reads as reads
 use Rattle.machine.proofs.remember.Lts as lts
 use Rattle.machine.proofs.put.Reads as put-reads
 
--- src/lib.rt:439:9
 returns : tie.Need-returns
 unfolding rememberOf
 returns c = λ out. no-eq _ _ _ _ _ (c .if1 .taken) (refl)
 
--- src/lib.rt:442:5
 put-requires : tie.Need-put-requires
 put-requires c κs = search needs
 
--- src/lib.rt:443:5
 put-requires-2 : tie.Need-put-requires-2
 put-requires-2 c κs = search needs
 
--- src/lib.rt:435:1
 same-length : tie.Need-same-length
 same-length c = search needs
 
--- src/lib.rt:435:1
 returns-2 : tie.Need-returns-2
 unfolding rememberOf
 returns-2 c = λ out. yes-eq _ _ _ _ _ (c .before .before .before .before .before .before .before .before .before .if1 .left) (step _ _ _ _ (c .before .before .before .before .before .before .put .ensures _ _) (c .before .before .put2 .ensures _ _))

@@ -16,19 +16,15 @@ use Rattle.machine.proofs.solved.Lts as lts
 use Rattle.machine.proofs.within.Reads as within-reads
 use Rattle.unifier.proofs.solved.Reads as solved-reads
 
--- src/lib.rt:384:9
 within-requires : tie.Need-within-requires
 within-requires c κs = search needs
 
--- src/lib.rt:385:21
 slice-aggregate-solved : tie.Need-slice-aggregate-solved
 slice-aggregate-solved c = sym (length-take-le _ _ (c .before .within .ensures .1))
 
--- src/lib.rt:385:5
 solved-requires : tie.Need-solved-requires
 solved-requires c κs = search needs
 
--- src/lib.rt:381:1
 returns : tie.Need-returns
 returns c = c .solved .ensures ∙ ap (λ (l : List ℕ). solved l (c .before .before .before .before .args .count) (c .before .before .before .before .args .t .0) (c .before .before .before .before .args .budget)) (lent (c .before .before .before .before .args .size) (c .before .before .within .result) (now (c .before .before .before .before .args .work)) (take (c .before .before .within .result) (now (c .before .before .before .before .args .work))) (c .before .before .within .ensures .0) refl .part)
 

@@ -8,12 +8,10 @@ use Rattle.machine.proofs.stopped.Tie as tie
 use Rattle.machine.proofs.stopped.Reads as reads
 use Rattle.machine.proofs.stopped.Lts as lts
 
--- src/lib.rt:103:9
 returns : tie.Need-returns
 unfolding stoppedOf
 returns c = no-eq _ _ _ _ _ (c .if1 .taken) (refl)
 
--- src/lib.rt:99:1
 returns-2 : tie.Need-returns-2
 unfolding stoppedOf
 returns-2 c = yes-eq _ _ _ _ _ (c .if1 .left) (refl)

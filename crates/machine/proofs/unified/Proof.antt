@@ -11,27 +11,21 @@ use Rattle.machine.proofs.unified.Lts as lts
 use Rattle.machine.proofs.within.Reads as within-reads
 use Rattle.unifier.proofs.unify.Reads as unify-reads
 
--- src/lib.rt:376:9
 within-requires : tie.Need-within-requires
 within-requires c κs = search needs
 
--- src/lib.rt:377:20
 slice-relend-prefix-unify : tie.Need-slice-relend-prefix-unify
 slice-relend-prefix-unify c = search needs
 
--- src/lib.rt:377:20
 slice-aggregate-unify : tie.Need-slice-aggregate-unify
 slice-aggregate-unify c = sym (length-take-le _ _ (c .before .within .ensures .1))
 
--- src/lib.rt:377:5
 unify-requires : tie.Need-unify-requires
 unify-requires c κs = search needs
 
--- src/lib.rt:372:1
 same-length : tie.Need-same-length
 same-length c = search needs
 
--- src/lib.rt:372:1
 returns : tie.Need-returns
 returns c = lent-unify (c .before .before .unify .result) (c .before .before .before .before .before .before .args .size) (c .before .before .before .before .within .result) _ _ _ _ (c .before .before .before .before .before .before .args .work .now) (c .before .before .unify .last .0) (lent (c .before .before .before .before .before .before .args .size) (c .before .before .before .before .within .result) (c .before .before .before .before .before .before .args .work .now) (c .before .before .unify .last .0) (c .before .before .before .before .within .ensures .0) (c .before .before .unify .kept .0)) (c .before .before .unify .ensures)
 

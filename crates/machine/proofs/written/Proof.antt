@@ -8,12 +8,10 @@ use Rattle.machine.proofs.written.Tie as tie
 use Rattle.machine.proofs.written.Reads as reads
 use Rattle.machine.proofs.written.Lts as lts
 
--- src/lib.rt:205:9
 returns : tie.Need-returns
 unfolding bytesOf
 returns c = no-eq _ _ _ _ _ (c .if1 .taken) (refl)
 
--- src/lib.rt:201:1
 returns-2 : tie.Need-returns-2
 unfolding bytesOf
 returns-2 c = yes-eq _ _ _ _ _ (c .if1 .left) (refl)

@@ -6,15 +6,12 @@ use Rattle.makers.proofs.int.Reads as reads
 use Rattle.makers.proofs.int.Lts as lts
 use Rattle.makers.proofs.push.Reads as push-reads
 
--- src/lib.rt:143:5
 push-requires : tie.Need-push-requires
 push-requires c κs = search needs
 
--- src/lib.rt:140:1
 same-length : tie.Need-same-length
 same-length c = search needs
 
--- src/lib.rt:140:1
 returns : tie.Need-returns
 unfolding build
 returns c = c .before .before .push .ensures

@@ -10,19 +10,15 @@ use Rattle.makers.proofs.pow.Reads as reads
 use Rattle.makers.proofs.pow.Lts as lts
 use Rattle.makers.proofs.push.Reads as push-reads
 
--- src/lib.rt:158:9
 push-requires : tie.Need-push-requires
 push-requires c κs = search needs
 
--- src/lib.rt:158:9
 same-length : tie.Need-same-length
 same-length c = search needs
 
--- src/lib.rt:158:9
 returns : tie.Need-returns
 returns c = c .before .before .push .ensures ∙ sym (build-power _ _ _ (c .before .before .before .before .if1 .taken))
 
--- src/lib.rt:154:1
 returns-2 : tie.Need-returns-2
 unfolding build choose
 returns-2 c = simp (le-ltb _ _ (c .if1 .left))

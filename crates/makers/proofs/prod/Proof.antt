@@ -10,24 +10,19 @@ use Rattle.makers.proofs.prod.Reads as reads
 use Rattle.makers.proofs.prod.Lts as lts
 use Rattle.makers.proofs.push.Reads as push-reads
 
--- src/lib.rt:169:13
 push-requires : tie.Need-push-requires
 push-requires c κs = search needs
 
--- src/lib.rt:169:13
 same-length : tie.Need-same-length
 same-length c = search needs
 
--- src/lib.rt:169:13
 returns : tie.Need-returns
 returns c = c .before .before .push .ensures ∙ sym (build-pair _ _ _ _ (c .before .before .before .before .before .before .if1 .taken) (c .before .before .before .before .if2 .taken))
 
--- src/lib.rt:164:1
 returns-2 : tie.Need-returns-2
 unfolding build choose
 returns-2 c = simp (lt-ltb _ _ (c .before .before .if1 .taken), le-ltb _ _ (c .if2 .left))
 
--- src/lib.rt:164:1
 returns-3 : tie.Need-returns-3
 unfolding build choose
 returns-3 c = simp (le-ltb _ _ (c .if1 .left))

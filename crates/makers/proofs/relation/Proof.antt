@@ -10,51 +10,39 @@ use Rattle.makers.proofs.relation.Lts as lts
 use Rattle.makers.proofs.pow.Reads as pow-reads
 use Rattle.makers.proofs.prod.Reads as prod-reads
 
--- src/lib.rt:179:9
 prod-requires : tie.Need-prod-requires
 prod-requires c κs = search needs
 
--- src/lib.rt:181:18
 enum-known-product : tie.Need-enum-known-product
 enum-known-product c = search needs
 
--- src/lib.rt:181:35
 add-pow : tie.Need-add-pow
 add-pow c = omega (arith, build-small _ _ _ _ _ (sym (c .before .before .before .before .before .before .before .prod .ensures) ∙ ap (λ r. made r (c .before .before .before .before .before .before .before .prod .last .0)) (c .before .before .before .product .given .1)) .1)
 
--- src/lib.rt:181:24
 pow-requires : tie.Need-pow-requires
 pow-requires c κs = search needs
 
--- src/lib.rt:182:23
 enum-told : tie.Need-enum-told
 enum-told c = search needs
 
--- src/lib.rt:183:25
 enum-told-2 : tie.Need-enum-told-2
 enum-told-2 c = search needs
 
--- src/lib.rt:176:1
 same-length : tie.Need-same-length
 same-length c = search needs
 
--- src/lib.rt:176:1
 returns : tie.Need-returns
 returns c = c .before .before .pow .ensures ∙ sym (relate-done _ _ _ _ _ _ (sym (c .before .before .before .before .before .before .before .before .before .before .prod .ensures) ∙ ap (λ r. made r (c .before .before .before .before .before .before .before .before .before .before .prod .last .0)) (c .before .before .before .before .before .before .product .given .1)))
 
--- src/lib.rt:176:1
 same-length-2 : tie.Need-same-length-2
 same-length-2 c = search needs
 
--- src/lib.rt:176:1
 returns-2 : tie.Need-returns-2
 returns-2 c = sym (relate-stop _ _ _ _ _ _ (sym (c .before .before .before .before .prod .ensures) ∙ ap (λ r. made r (c .before .before .before .before .prod .last .0)) (c .enum-told .given .1)))
 
--- src/lib.rt:176:1
 same-length-3 : tie.Need-same-length-3
 same-length-3 c = search needs
 
--- src/lib.rt:176:1
 returns-3 : tie.Need-returns-3
 returns-3 c = sym (relate-stop _ _ _ _ _ _ (sym (c .before .before .before .before .prod .ensures) ∙ ap (λ r. made r (c .before .before .before .before .prod .last .0)) (c .enum-told2 .given .1)))
 

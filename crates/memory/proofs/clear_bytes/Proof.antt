@@ -15,31 +15,24 @@ Inv-loop bytes₀ from i₀ bytes i = (zeroed from (length bytes₀ - from) byte
 abbrev μ-loop : tie.MeasureT-loop
 μ-loop bytes₀ from i₀ bytes i = length bytes₀ - i
 
--- src/lib.rt:13:5
 loop-holds : tie.Need-loop-holds Inv-loop μ-loop
 loop-holds c = (refl, refl)
 
--- src/lib.rt:14:9
 slice-write-bytes : tie.Need-slice-write-bytes Inv-loop μ-loop
 slice-write-bytes c = search needs
 
--- src/lib.rt:15:9
 add-i : tie.Need-add-i Inv-loop μ-loop
 add-i c = search needs
 
--- src/lib.rt:13:5
 loop-less : tie.Need-loop-less Inv-loop μ-loop
 loop-less c = search needs
 
--- src/lib.rt:13:5
 loop-again : tie.Need-loop-again Inv-loop μ-loop
 loop-again c = (c .before .loop .inv .0 ∙ zero-more (c .before .loop .i) _ _ (omega (arith, c .before .loop .inv .1, c .loop-test .taken)), simp length-set (c .before .loop .inv .1))
 
--- src/lib.rt:9:1
 same-length : tie.Need-same-length Inv-loop μ-loop
 same-length c = c .before .loop .inv .1
 
--- src/lib.rt:9:1
 returns : tie.Need-returns Inv-loop μ-loop
 returns c = sym (zero-end (c .before .loop .i) _ _ (omega (arith, c .before .loop .inv .1))) ∙ sym (c .before .loop .inv .0) ∙ zero-cleared _ _
 

@@ -15,35 +15,27 @@ Inv-loop words₀ from i₀ words i = (zeroed from (length words₀ - from) word
 abbrev μ-loop : tie.MeasureT-loop
 μ-loop words₀ from i₀ words i = length words₀ - i
 
--- src/lib.rt:24:5
 loop-holds : tie.Need-loop-holds Inv-loop μ-loop
 loop-holds c = (refl, refl)
 
--- src/lib.rt:25:9
 mul-words : tie.Need-mul-words Inv-loop μ-loop
 mul-words c = omega (arith, c .before .loop .inv .1)
 
--- src/lib.rt:25:9
 slice-write-words : tie.Need-slice-write-words Inv-loop μ-loop
 slice-write-words c = search needs
 
--- src/lib.rt:26:9
 add-i : tie.Need-add-i Inv-loop μ-loop
 add-i c = search needs
 
--- src/lib.rt:24:5
 loop-less : tie.Need-loop-less Inv-loop μ-loop
 loop-less c = search needs
 
--- src/lib.rt:24:5
 loop-again : tie.Need-loop-again Inv-loop μ-loop
 loop-again c = (c .before .loop .inv .0 ∙ zero-more (c .before .loop .i) _ _ (omega (arith, c .before .loop .inv .1, c .loop-test .taken)), simp length-set (c .before .loop .inv .1))
 
--- src/lib.rt:20:1
 same-length : tie.Need-same-length Inv-loop μ-loop
 same-length c = c .before .loop .inv .1
 
--- src/lib.rt:20:1
 returns : tie.Need-returns Inv-loop μ-loop
 returns c = sym (zero-end (c .before .loop .i) _ _ (omega (arith, c .before .loop .inv .1))) ∙ sym (c .before .loop .inv .0) ∙ zero-cleared _ _
 

@@ -8,42 +8,34 @@ use Rattle.operators.proofs.check_atomic.Tie as tie
 use Rattle.operators.proofs.check_atomic.Reads as reads
 use Rattle.operators.proofs.check_atomic.Lts as lts
 
--- src/lib.rt:918:1
 returns : tie.Need-returns
 unfolding checkAtomicOf test
 returns c = sym (ap checkAtomicOf (c .match .keys1))
 
--- src/lib.rt:918:1
 returns-2 : tie.Need-returns-2
 unfolding checkAtomicOf test
 returns-2 c = sym (ap checkAtomicOf (c .match .keys2))
 
--- src/lib.rt:918:1
 returns-3 : tie.Need-returns-3
 unfolding checkAtomicOf test
 returns-3 c = sym (ap checkAtomicOf (c .match .keys3))
 
--- src/lib.rt:918:1
 returns-4 : tie.Need-returns-4
 unfolding checkAtomicOf test
 returns-4 c = sym (ap checkAtomicOf (c .match .keys4))
 
--- src/lib.rt:918:1
 returns-5 : tie.Need-returns-5
 unfolding checkAtomicOf test
 returns-5 c = yes-le (c .before .before .args .op) 2 _ _ _ (omega (arith, c .if1 .taken)) (refl)
 
--- src/lib.rt:918:1
 returns-6 : tie.Need-returns-6
 unfolding checkAtomicOf test
 returns-6 c = no-le (c .before .before .before .args .op) 2 _ _ _ (omega (arith, c .if2 .taken, c .before .if1 .left)) (no-eq (c .before .before .before .args .op) 3 _ _ _ (c .before .before .match .rest .0 .0 .0 .1) (yes-le (c .before .before .before .args .op) 5 _ _ _ (omega (arith, c .if2 .taken, c .before .if1 .left)) (refl)))
 
--- src/lib.rt:918:1
 returns-7 : tie.Need-returns-7
 unfolding checkAtomicOf test
 returns-7 c = no-le (c .before .before .before .before .args .op) 2 _ _ _ (omega (arith, c .if3 .taken, c .before .if2 .left, c .before .before .if1 .left)) (no-eq (c .before .before .before .before .args .op) 3 _ _ _ (c .before .before .before .match .rest .0 .0 .0 .1) (no-le (c .before .before .before .before .args .op) 5 _ _ _ (omega (arith, c .if3 .taken, c .before .if2 .left, c .before .before .if1 .left)) (yes-le (c .before .before .before .before .args .op) 7 _ _ _ (omega (arith, c .if3 .taken, c .before .if2 .left, c .before .before .if1 .left)) (refl))))
 
--- src/lib.rt:918:1
 returns-8 : tie.Need-returns-8
 unfolding checkAtomicOf test
 returns-8 c = no-le (c .before .before .before .before .args .op) 2 _ _ _ (omega (arith, c .if3 .left, c .before .if2 .left, c .before .before .if1 .left)) (no-eq (c .before .before .before .before .args .op) 3 _ _ _ (c .before .before .before .match .rest .0 .0 .0 .1) (no-le (c .before .before .before .before .args .op) 5 _ _ _ (omega (arith, c .if3 .left, c .before .if2 .left, c .before .before .if1 .left)) (no-le (c .before .before .before .before .args .op) 7 _ _ _ (omega (arith, c .if3 .left, c .before .if2 .left, c .before .before .if1 .left)) (no-eq (c .before .before .before .before .args .op) 8 _ _ _ (c .before .before .before .match .rest .0 .0 .1) (no-eq (c .before .before .before .before .args .op) 9 _ _ _ (c .before .before .before .match .rest .0 .1) (no-eq (c .before .before .before .before .args .op) 10 _ _ _ (c .before .before .before .match .rest .1) (refl)))))))

@@ -8,12 +8,10 @@ use Rattle.operators.proofs.check_quantified.Tie as tie
 use Rattle.operators.proofs.check_quantified.Reads as reads
 use Rattle.operators.proofs.check_quantified.Lts as lts
 
--- src/lib.rt:967:1
 returns : tie.Need-returns
 unfolding checkQuantifiedOf test
 returns c = yes-le (c .before .args .op) 1 _ _ _ (omega (arith, c .if1 .taken)) (refl)
 
--- src/lib.rt:967:1
 returns-2 : tie.Need-returns-2
 unfolding checkQuantifiedOf test
 returns-2 c = no-le (c .before .args .op) 1 _ _ _ (omega (arith, c .if1 .left)) (refl)

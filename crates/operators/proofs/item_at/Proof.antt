@@ -8,28 +8,22 @@ use Rattle.operators.proofs.item_at.Tie as tie
 use Rattle.operators.proofs.item_at.Reads as reads
 use Rattle.operators.proofs.item_at.Lts as lts
 
--- src/lib.rt:1071:19
 array-read-t7 : tie.Need-array-read-t7
 array-read-t7 c = search needs
 
--- src/lib.rt:1072:16
 array-read-t11 : tie.Need-array-read-t11
 array-read-t11 c = search needs
 
--- src/lib.rt:1073:16
 array-read-t15 : tie.Need-array-read-t15
 array-read-t15 c = search needs
 
--- src/lib.rt:1074:17
 array-read-t19 : tie.Need-array-read-t19
 array-read-t19 c = search needs
 
--- src/lib.rt:1070:9
 returns : tie.Need-returns
 unfolding itemAt deedsT leftsT rightsT placesT
 returns c = yes-lt _ _ _ _ _ (c .if1 .taken) refl
 
--- src/lib.rt:1065:1
 returns-2 : tie.Need-returns-2
 unfolding itemAt deedsT leftsT rightsT placesT
 returns-2 c = no-lt _ _ _ _ _ (c .if1 .left) refl

@@ -8,28 +8,22 @@ use Rattle.operators.proofs.script_at.Tie as tie
 use Rattle.operators.proofs.script_at.Reads as reads
 use Rattle.operators.proofs.script_at.Lts as lts
 
--- src/lib.rt:1046:19
 array-read-t7 : tie.Need-array-read-t7
 array-read-t7 c = search needs
 
--- src/lib.rt:1047:35
 add-t9 : tie.Need-add-t9
 add-t9 c = search needs
 
--- src/lib.rt:1047:20
 array-read-t12 : tie.Need-array-read-t12
 array-read-t12 c = search needs
 
--- src/lib.rt:1048:20
 array-read-t16 : tie.Need-array-read-t16
 array-read-t16 c = search needs
 
--- src/lib.rt:1045:9
 returns : tie.Need-returns
 unfolding scriptAt startsT givesT
 returns c = yes-lt _ _ _ _ _ (c .if1 .taken) refl
 
--- src/lib.rt:1040:1
 returns-2 : tie.Need-returns-2
 unfolding scriptAt startsT givesT
 returns-2 c = no-lt _ _ _ _ _ (c .if1 .left) refl

@@ -8,27 +8,21 @@ use Rattle.memory.proofs.clear_bytes.Reads as clear-bytes-reads
 use Rattle.memory.proofs.clear_words.Reads as clear-words-reads
 use Rattle.runner.proofs.length_of.Reads as length-of-reads
 
--- src/lib.rt:164:33
 length-of-requires : tie.Need-length-of-requires
 length-of-requires c κs = search needs
 
--- src/lib.rt:164:5
 clear-bytes-requires : tie.Need-clear-bytes-requires
 clear-bytes-requires c κs = search needs
 
--- src/lib.rt:165:5
 clear-words-requires : tie.Need-clear-words-requires
 clear-words-requires c κs = search needs
 
--- src/lib.rt:161:1
 same-length : tie.Need-same-length
 same-length c = search needs
 
--- src/lib.rt:161:1
 same-length-2 : tie.Need-same-length-2
 same-length-2 c = search needs
 
--- src/lib.rt:161:1
 returns : tie.Need-returns
 returns c = closes _ _ _ _ (c .before .before .before .before .before .before .before .before .before .before .before .args .work .now) _ (c .before .before .before .before .before .before .before .length-of .ensures) (c .before .before .before .before .before .before .clear-bytes .ensures) (c .before .before .clear-words .ensures)
 

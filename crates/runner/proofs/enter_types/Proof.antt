@@ -20,43 +20,33 @@ Inv-loop work₀ size types x₀ work x = ((st : State) (out : List ℕ) → ent
 abbrev μ-loop : tie.MeasureT-loop
 μ-loop work₀ size types x₀ work x = 256 - x
 
--- src/lib.rt:92:5
 loop-holds : tie.Need-loop-holds Inv-loop μ-loop
 loop-holds c = ((λ st out. refl), refl)
 
--- src/lib.rt:93:17
 cast-i : tie.Need-cast-i Inv-loop μ-loop
 cast-i c = search needs
 
--- src/lib.rt:94:61
 mul-put : tie.Need-mul-put Inv-loop μ-loop
 mul-put c = search needs
 
--- src/lib.rt:94:61
 element-copy-out-put : tie.Need-element-copy-out-put Inv-loop μ-loop
 element-copy-out-put c = search needs
 
--- src/lib.rt:94:9
 put-requires : tie.Need-put-requires Inv-loop μ-loop
 put-requires c κs = search needs
 
--- src/lib.rt:95:9
 add-x : tie.Need-add-x Inv-loop μ-loop
 add-x c = search needs
 
--- src/lib.rt:92:5
 loop-less : tie.Need-loop-less Inv-loop μ-loop
 loop-less c = search needs
 
--- src/lib.rt:92:5
 loop-again : tie.Need-loop-again Inv-loop μ-loop
 loop-again c = ((λ st out. c .before .before .before .before .before .before .loop .inv .0 st out ∙ entered-more _ (c .before .before .before .before .before .before .loop .x) _ (c .before .before .before .before .before .loop-test .taken) ∙ ap (enteredFrom _ _ _) (sym (c .before .before .put .ensures st out))), c .before .before .put .kept .0 ∙ c .before .before .before .before .before .before .loop .inv .1)
 
--- src/lib.rt:88:1
 same-length : tie.Need-same-length Inv-loop μ-loop
 same-length c = c .before .loop .inv .1
 
--- src/lib.rt:88:1
 returns : tie.Need-returns Inv-loop μ-loop
 returns c = λ st out. sym (entered-end _ (c .before .loop .x) _ (c .loop-test .left)) ∙ sym (c .before .loop .inv .0 st out)
 

@@ -10,38 +10,30 @@ use Rattle.runner.proofs.fits.Tie as tie
 use Rattle.runner.proofs.fits.Reads as reads
 use Rattle.runner.proofs.fits.Lts as lts
 
--- src/lib.rt:49:9
 returns : tie.Need-returns
 unfolding sized
 returns c = search (needs, lt-ltb, le-ltb, le-leb, lt-leb, eq-eqb, ne-eqb)
 
--- src/lib.rt:52:9
 returns-2 : tie.Need-returns-2
 unfolding sized
 returns-2 c = search (needs, lt-ltb, le-ltb, le-leb, lt-leb, eq-eqb, ne-eqb)
 
--- src/lib.rt:55:9
 returns-3 : tie.Need-returns-3
 unfolding sized
 returns-3 c = search (needs, lt-ltb, le-ltb, le-leb, lt-leb, eq-eqb, ne-eqb)
 
--- src/lib.rt:58:9
 returns-4 : tie.Need-returns-4
 returns-4 c = no-capacity _ _ _ _ _ (c .before .before .before .if1 .left) (c .before .before .if2 .left) (c .before .if3 .left) (c .if4 .taken)
 
--- src/lib.rt:61:9
 returns-5 : tie.Need-returns-5
 returns-5 c = great-capacity _ _ _ _ _ (c .before .before .before .before .if1 .left) (c .before .before .before .if2 .left) (c .before .before .if3 .left) (c .before .if4 .left) (c .if5 .taken)
 
--- src/lib.rt:63:5
 mul-result : tie.Need-mul-result
 mul-result c = search needs
 
--- src/lib.rt:63:5
 add-result : tie.Need-add-result
 add-result c = search needs
 
--- src/lib.rt:45:1
 returns-6 : tie.Need-returns-6
 returns-6 c = by-work _ _ _ _ _ (c .before .before .before .before .if1 .left) (c .before .before .before .if2 .left) (c .before .before .if3 .left) (c .before .if4 .left) (c .if5 .left)
 

@@ -10,46 +10,36 @@ use Rattle.runner.proofs.judge.Lts as lts
 use Rattle.finisher.proofs.write_answer.Reads as write-answer-reads
 use Rattle.runner.proofs.verdict.Reads as verdict-reads
 
--- src/lib.rt:135:9
 verdict-requires : tie.Need-verdict-requires
 verdict-requires c κs = search needs
 
--- src/lib.rt:135:9
 returns : tie.Need-returns
 unfolding judgeOf
 returns c = no-eq _ _ _ _ _ (c .before .if1 .taken) (same-judged _ _ _ (c .verdict .ensures))
 
--- src/lib.rt:138:9
 verdict-requires-2 : tie.Need-verdict-requires-2
 verdict-requires-2 c κs = search needs
 
--- src/lib.rt:138:9
 returns-2 : tie.Need-returns-2
 unfolding judgeOf
 returns-2 c = yes-eq _ _ _ _ _ (c .before .before .if1 .left) (yes-if _ _ _ _ (c .before .if2 .taken) (same-judged _ _ _ (c .verdict2 .ensures)))
 
--- src/lib.rt:141:9
 verdict-requires-3 : tie.Need-verdict-requires-3
 verdict-requires-3 c κs = search needs
 
--- src/lib.rt:141:9
 returns-3 : tie.Need-returns-3
 unfolding judgeOf
 returns-3 c = yes-eq _ _ _ _ _ (c .before .before .before .before .if1 .left) (no-if _ _ _ _ (c .before .before .before .if2 .left) (no-eq _ _ _ _ _ (c .before .if3 .taken) (same-judged _ _ _ (c .verdict3 .ensures))))
 
--- src/lib.rt:143:9
 write-answer-requires : tie.Need-write-answer-requires
 write-answer-requires c κs = search needs
 
--- src/lib.rt:144:5
 verdict-requires-4 : tie.Need-verdict-requires-4
 verdict-requires-4 c κs = search needs
 
--- src/lib.rt:131:1
 same-length : tie.Need-same-length
 same-length c = search needs
 
--- src/lib.rt:131:1
 returns-4 : tie.Need-returns-4
 unfolding judgeOf
 returns-4 c = yes-eq _ _ _ _ _ (c .before .before .before .before .before .before .before .before .if1 .left) (no-if _ _ _ _ (c .before .before .before .before .before .before .before .if2 .left) (yes-eq _ _ _ _ _ (c .before .before .before .before .before .if3 .left) (step _ _ _ _ (c .before .before .before .write-answer .ensures) (same-judged _ _ _ (c .verdict4 .ensures)))))

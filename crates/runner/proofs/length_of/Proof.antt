@@ -10,25 +10,20 @@ use Rattle.runner.proofs.length_of.Tie as tie
 use Rattle.runner.proofs.length_of.Reads as reads
 use Rattle.runner.proofs.length_of.Lts as lts
 
--- src/lib.rt:154:23
 enum-known-answer : tie.Need-enum-known-answer
 enum-known-answer c = search needs
 
--- src/lib.rt:155:26
 enum-known-answer-2 : tie.Need-enum-known-answer-2
 enum-known-answer-2 c = search needs
 
--- src/lib.rt:150:1
 returns : tie.Need-returns
 unfolding told
 returns c = sym (ap (λ (a : Answer). told a .size) (c .before .answer .given .1))
 
--- src/lib.rt:150:1
 returns-2 : tie.Need-returns-2
 unfolding told
 returns-2 c = sym (ap (λ (a : Answer). told a .size) (c .before .answer2 .given .1))
 
--- src/lib.rt:150:1
 returns-3 : tie.Need-returns-3
 returns-3 c = refusal-size _ (c .match .keys3)
 

@@ -8,23 +8,18 @@ use Rattle.runner.proofs.refusal.Tie as tie
 use Rattle.runner.proofs.refusal.Reads as reads
 use Rattle.runner.proofs.refusal.Lts as lts
 
--- src/lib.rt:174:26
 enum-known-fault : tie.Need-enum-known-fault
 enum-known-fault c = search needs
 
--- src/lib.rt:176:17
 returns : tie.Need-returns
 returns c = blames-environment _ _ _ (c .before .before .fault .given .1) (c .if1 .taken)
 
--- src/lib.rt:180:23
 enum-known-fault-2 : tie.Need-enum-known-fault-2
 enum-known-fault-2 c = search needs
 
--- src/lib.rt:170:1
 returns-2 : tie.Need-returns-2
 returns-2 c = blames-formula _ _ _ (c .before .before .fault .given .1) (c .if1 .left)
 
--- src/lib.rt:170:1
 returns-3 : tie.Need-returns-3
 returns-3 c = blames-beyond _ _ _ (c .before .fault2 .given .1)
 

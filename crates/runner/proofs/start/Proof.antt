@@ -6,7 +6,6 @@ use Rattle.runner.proofs.start.Tie as tie
 use Rattle.runner.proofs.start.Reads as reads
 use Rattle.runner.proofs.start.Lts as lts
 
--- src/lib.rt:69:1
 returns : tie.Need-returns
 unfolding startOf
 returns c = refl

@@ -12,40 +12,32 @@ use Rattle.runner.proofs.verdict.Reads as reads
 use Rattle.runner.proofs.verdict.Lts as lts
 use Rattle.runner.proofs.steps.Reads as steps-reads
 
--- src/lib.rt:113:9
 returns : tie.Need-returns
 unfolding verdictOf
 returns c = yes-eq _ _ _ _ _ (c .if1 .taken) refl
 
--- src/lib.rt:116:9
 returns-2 : tie.Need-returns-2
 unfolding verdictOf
 returns-2 c = no-eq _ _ _ _ _ (c .before .before .if1 .left) (yes-eq _ _ _ _ _ (c .if2 .taken) refl)
 
--- src/lib.rt:119:9
 returns-3 : tie.Need-returns-3
 unfolding verdictOf
 returns-3 c = no-eq _ _ _ _ _ (c .before .before .before .before .if1 .left) (no-eq _ _ _ _ _ (c .before .before .if2 .left) (no-eq _ _ _ _ _ (c .if3 .taken) refl))
 
--- src/lib.rt:122:9
 returns-4 : tie.Need-returns-4
 unfolding verdictOf
 returns-4 c = no-eq _ _ _ _ _ (c .before .before .before .before .before .if1 .left) (no-eq _ _ _ _ _ (c .before .before .before .if2 .left) (yes-eq _ _ _ _ _ (c .before .if3 .left) (yes-if _ _ _ _ (c .if4 .taken) refl)))
 
--- src/lib.rt:125:40
 steps-requires : tie.Need-steps-requires
 steps-requires c κs = search needs
 
--- src/lib.rt:125:9
 returns-5 : tie.Need-returns-5
 unfolding verdictOf
 returns-5 c = no-eq _ _ _ _ _ (c .before .before .before .before .before .before .before .if1 .left) (no-eq _ _ _ _ _ (c .before .before .before .before .before .if2 .left) (yes-eq _ _ _ _ _ (c .before .before .before .if3 .left) (no-if _ _ _ _ (c .before .before .if4 .left) (yes-if _ _ _ _ (c .before .if5 .taken) (same-typed _ _ _ (c .steps .ensures))))))
 
--- src/lib.rt:127:32
 steps-requires-2 : tie.Need-steps-requires-2
 steps-requires-2 c κs = search needs
 
--- src/lib.rt:109:1
 returns-6 : tie.Need-returns-6
 unfolding verdictOf
 returns-6 c = no-eq _ _ _ _ _ (c .before .before .before .before .before .before .before .if1 .left) (no-eq _ _ _ _ _ (c .before .before .before .before .before .if2 .left) (yes-eq _ _ _ _ _ (c .before .before .before .if3 .left) (no-if _ _ _ _ (c .before .before .if4 .left) (no-if _ _ _ _ (c .before .if5 .left) (same-problems _ _ _ (c .steps2 .ensures))))))

@@ -14,67 +14,51 @@ use Rattle.runner.proofs.fits.Reads as fits-reads
 use Rattle.runner.proofs.refusal.Reads as refusal-reads
 use Rattle.typecheck.proofs.infer_formula.Reads as infer-formula-reads
 
--- src/lib.rt:125:8
 fits-requires : tie.Need-fits-requires
 fits-requires c κs = search needs
 
--- src/lib.rt:132:13
 check-environment-requires : tie.Need-check-environment-requires
 check-environment-requires c κs = search needs
 
--- src/lib.rt:135:30
 enum-told : tie.Need-enum-told
 enum-told c = search needs
 
--- src/lib.rt:136:23
 enum-known-form : tie.Need-enum-known-form
 enum-known-form c = search needs
 
--- src/lib.rt:136:47
 refusal-requires : tie.Need-refusal-requires
 refusal-requires c κs = search needs
 
--- src/lib.rt:136:33
 close-requires : tie.Need-close-requires
 close-requires c κs = search needs
 
--- src/lib.rt:138:21
 enum-told-2 : tie.Need-enum-told-2
 enum-told-2 c = search needs
 
--- src/lib.rt:139:17
 infer-formula-requires : tie.Need-infer-formula-requires
 infer-formula-requires c κs = (let z = sized-holds _ _ _ _ _ .1 (sym (c .before .before .before .before .before .before .before .before .fits2 .ensures) ∙ c .before .before .before .before .before .before .before .if1 .taken) in z .capacity-small)
 
--- src/lib.rt:114:1
 returns : tie.Need-returns
 returns c = infer-long (c .before .before .before .before .before .before .before .before .before .args .formula .now) (c .before .before .before .before .before .before .before .before .before .args .environment .now) (c .before .before .before .before .before .before .before .before .before .args .names) (c .before .before .before .before .before .before .before .before .before .args .capacity) (c .before .before .before .before .before .before .before .before .before .args .budget) (c .before .before .before .before .before .before .before .before .before .args .output .now) (c .before .before .before .before .before .before .before .before .before .args .work .now) (c .before .before .check-environment .result) (c .before .before .check-environment .ensures) (λ i. omega (arith, c .before .before .before .before .before .before .before .before .shared-slice-known .given i)) (λ i. omega (arith, c .before .before .before .before .before .before .before .shared-slice-known2 .given i)) (search needs) (sym (c .before .before .before .before .fits2 .ensures) ∙ c .before .before .before .if1 .taken) (c .enum-told .given .1)
 
--- src/lib.rt:114:1
 same-length : tie.Need-same-length
 same-length c = search needs
 
--- src/lib.rt:114:1
 same-length-2 : tie.Need-same-length-2
 same-length-2 c = search needs
 
--- src/lib.rt:114:1
 returns-2 : tie.Need-returns-2
 returns-2 c = infer-bad (c .before .before .before .before .before .before .before .before .before .before .before .before .before .before .before .before .before .before .args .formula .now) (c .before .before .before .before .before .before .before .before .before .before .before .before .before .before .before .before .before .before .args .environment .now) (c .before .before .before .before .before .before .before .before .before .before .before .before .before .before .before .before .before .before .args .names) (c .before .before .before .before .before .before .before .before .before .before .before .before .before .before .before .before .before .before .args .capacity) (c .before .before .before .before .before .before .before .before .before .before .before .before .before .before .before .before .before .before .args .budget) (c .before .before .before .before .before .before .before .before .before .before .before .before .before .before .before .before .before .before .args .output .now) (c .before .before .before .before .before .before .before .before .before .before .before .before .before .before .before .before .before .before .args .work .now) (c .before .before .before .before .before .before .before .before .before .before .before .check-environment .result) (c .before .before .before .before .before .before .before .before .before .before .before .check-environment .ensures) (λ i. omega (arith, c .before .before .before .before .before .before .before .before .before .before .before .before .before .before .before .before .before .shared-slice-known .given i)) (λ i. omega (arith, c .before .before .before .before .before .before .before .before .before .before .before .before .before .before .before .before .shared-slice-known2 .given i)) (search needs) (sym (c .before .before .before .before .before .before .before .before .before .before .before .before .before .fits2 .ensures) ∙ c .before .before .before .before .before .before .before .before .before .before .before .before .if1 .taken) _ (c .before .before .before .before .before .before .before .refusal .result) (c .before .before .before .before .close .result) (c .before .before .before .before .close .last .1 .0) (c .before .before .before .before .close .last .1 .1 .0) (c .before .before .before .before .before .before .before .before .before .form .given .1) (c .before .before .before .before .before .before .before .refusal .ensures) (c .before .before .before .before .close .ensures) (c .before .before .before .before .close .kept .1 .0)
 
--- src/lib.rt:114:1
 same-length-3 : tie.Need-same-length-3
 same-length-3 c = search needs
 
--- src/lib.rt:114:1
 same-length-4 : tie.Need-same-length-4
 same-length-4 c = search needs
 
--- src/lib.rt:114:1
 returns-3 : tie.Need-returns-3
 returns-3 c = infer-good (c .before .before .before .before .before .before .before .before .before .before .before .before .before .before .before .before .before .before .args .formula .now) (c .before .before .before .before .before .before .before .before .before .before .before .before .before .before .before .before .before .before .args .environment .now) (c .before .before .before .before .before .before .before .before .before .before .before .before .before .before .before .before .before .before .args .names) (c .before .before .before .before .before .before .before .before .before .before .before .before .before .before .before .before .before .before .args .capacity) (c .before .before .before .before .before .before .before .before .before .before .before .before .before .before .before .before .before .before .args .budget) (c .before .before .before .before .before .before .before .before .before .before .before .before .before .before .before .before .before .before .args .output .now) (c .before .before .before .before .before .before .before .before .before .before .before .before .before .before .before .before .before .before .args .work .now) (c .before .before .before .before .before .before .before .before .before .before .before .check-environment .result) (c .before .before .before .before .before .before .before .before .before .before .before .check-environment .ensures) (λ i. omega (arith, c .before .before .before .before .before .before .before .before .before .before .before .before .before .before .before .before .before .shared-slice-known .given i)) (λ i. omega (arith, c .before .before .before .before .before .before .before .before .before .before .before .before .before .before .before .before .shared-slice-known2 .given i)) (search needs) (sym (c .before .before .before .before .before .before .before .before .before .before .before .before .before .fits2 .ensures) ∙ c .before .before .before .before .before .before .before .before .before .before .before .before .if1 .taken) (c .before .before .before .before .infer-formula .result) (c .before .before .before .before .infer-formula .last .1 .1 .1 .1 .1 .1 .0) (c .before .before .before .before .infer-formula .last .1 .1 .1 .1 .1 .1 .1 .0) (c .before .before .before .before .before .before .before .before .before .enum-told2 .given .1) (c .before .before .before .before .infer-formula .ensures) (c .before .before .before .before .infer-formula .kept .1 .1 .1 .1 .1 .1 .0)
 
--- src/lib.rt:114:1
 returns-4 : tie.Need-returns-4
 returns-4 c = oversized-call (c .before .before .before .before .before .before .args .formula .now) (c .before .before .before .before .before .before .args .environment .now) (c .before .before .before .before .before .before .args .names) (c .before .before .before .before .before .before .args .capacity) (c .before .before .before .before .before .before .args .budget) (c .before .before .before .before .before .before .args .output .now) (c .before .before .before .before .before .before .args .work .now) (sym (c .before .fits2 .ensures) ∙ c .if1 .left)
 

@@ -11,67 +11,51 @@ use Rattle.runner.proofs.close.Reads as close-reads
 use Rattle.runner.proofs.refusal.Reads as refusal-reads
 use Rattle.typecheck.proofs.walk.Reads as walk-reads
 
--- src/lib.rt:92:11
 check-formula-requires : tie.Need-check-formula-requires
 check-formula-requires c κs = search needs
 
--- src/lib.rt:93:26
 enum-told : tie.Need-enum-told
 enum-told c = search needs
 
--- src/lib.rt:94:19
 enum-known-fault : tie.Need-enum-known-fault
 enum-known-fault c = search needs
 
--- src/lib.rt:94:43
 refusal-requires : tie.Need-refusal-requires
 refusal-requires c κs = search needs
 
--- src/lib.rt:94:29
 close-requires : tie.Need-close-requires
 close-requires c κs = search needs
 
--- src/lib.rt:100:17
 enum-told-2 : tie.Need-enum-told-2
 enum-told-2 c = search needs
 
--- src/lib.rt:100:17
 mul-walk : tie.Need-mul-walk
 mul-walk c = search needs
 
--- src/lib.rt:96:17
 walk-requires : tie.Need-walk-requires
 walk-requires c κs = search needs
 
--- src/lib.rt:105:13
 close-requires-2 : tie.Need-close-requires-2
 close-requires-2 c κs = search needs
 
--- src/lib.rt:79:1
 returns : tie.Need-returns
 returns c = formula-long _ (c .before .before .before .before .before .before .before .args .formula .now) (c .before .before .before .before .before .before .before .args .environment .now) (c .before .before .before .before .before .before .before .args .types .now) (c .before .before .before .before .before .before .before .args .capacity) (c .before .before .before .before .before .before .before .args .budget) (c .before .before .before .before .before .before .before .args .output .now) (c .before .before .before .before .before .before .before .args .work .now) (sym (c .before .before .check-formula .ensures) ∙ c .enum-told .given .1)
 
--- src/lib.rt:79:1
 same-length : tie.Need-same-length
 same-length c = search needs
 
--- src/lib.rt:79:1
 same-length-2 : tie.Need-same-length-2
 same-length-2 c = search needs
 
--- src/lib.rt:79:1
 returns-2 : tie.Need-returns-2
 returns-2 c = formula-bad _ (c .before .before .before .before .before .before .before .before .before .before .before .before .before .before .before .before .args .formula .now) (c .before .before .before .before .before .before .before .before .before .before .before .before .before .before .before .before .args .environment .now) (c .before .before .before .before .before .before .before .before .before .before .before .before .before .before .before .before .args .types .now) (c .before .before .before .before .before .before .before .before .before .before .before .before .before .before .before .before .args .capacity) (c .before .before .before .before .before .before .before .before .before .before .before .before .before .before .before .before .args .budget) (c .before .before .before .before .before .before .before .before .before .before .before .before .before .before .before .before .args .output .now) (c .before .before .before .before .before .before .before .before .before .before .before .before .before .before .before .before .args .work .now) _ (c .before .before .before .before .before .before .before .refusal .result) (c .before .before .before .before .close .result) (c .before .before .before .before .close .last .1 .0) (c .before .before .before .before .close .last .1 .1 .0) (sym (c .before .before .before .before .before .before .before .before .before .before .before .check-formula .ensures) ∙ c .before .before .before .before .before .before .before .before .before .fault .given .1) (c .before .before .before .before .before .before .before .refusal .ensures) (c .before .before .before .before .close .ensures)
 
--- src/lib.rt:79:1
 same-length-3 : tie.Need-same-length-3
 same-length-3 c = search needs
 
--- src/lib.rt:79:1
 same-length-4 : tie.Need-same-length-4
 same-length-4 c = search needs
 
--- src/lib.rt:79:1
 returns-3 : tie.Need-returns-3
 returns-3 c = formula-good _ (c .before .before .before .before .before .before .before .before .before .before .before .before .before .before .before .before .before .before .before .before .before .args .formula .now) (c .before .before .before .before .before .before .before .before .before .before .before .before .before .before .before .before .before .before .before .before .before .args .environment .now) (c .before .before .before .before .before .before .before .before .before .before .before .before .before .before .before .before .before .before .before .before .before .args .types .now) (c .before .before .before .before .before .before .before .before .before .before .before .before .before .before .before .before .before .before .before .before .before .args .capacity) (c .before .before .before .before .before .before .before .before .before .before .before .before .before .before .before .before .before .before .before .before .before .args .budget) (c .before .before .before .before .before .before .before .before .before .before .before .before .before .before .before .before .before .before .before .before .before .args .output .now) (c .before .before .before .before .before .before .before .before .before .before .before .before .before .before .before .before .before .before .before .before .before .args .work .now) (c .before .before .before .before .before .before .before .before .before .before .before .walk .result) (c .before .before .before .before .close2 .result) (c .before .before .before .before .before .before .before .before .before .before .before .walk .last .1 .1 .1 .1 .1 .0) (c .before .before .before .before .before .before .before .before .before .before .before .walk .last .1 .1 .1 .1 .1 .1 .0) (c .before .before .before .before .close2 .last .1 .0) (c .before .before .before .before .close2 .last .1 .1 .0) (sym (c .before .before .before .before .before .before .before .before .before .before .before .before .before .before .before .before .check-formula .ensures) ∙ c .before .before .before .before .before .before .before .before .before .before .before .before .before .before .enum-told2 .given .1) (c .before .before .before .before .before .before .before .before .before .before .before .walk .ensures) (c .before .before .before .before .before .before .before .before .before .before .before .walk .kept .1 .1 .1 .1 .1 .1 .0) (c .before .before .before .before .close2 .ensures)
 

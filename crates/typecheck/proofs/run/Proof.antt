@@ -11,35 +11,27 @@ use Rattle.runner.proofs.enter_types.Reads as enter-types-reads
 use Rattle.runner.proofs.start.Reads as start-reads
 use Rattle.walker.proofs.formula.Reads as formula-reads
 
--- src/lib.rt:33:5
 clear-words-requires : tie.Need-clear-words-requires
 clear-words-requires c κs = search needs
 
--- src/lib.rt:34:5
 enter-types-requires : tie.Need-enter-types-requires
 enter-types-requires c κs = search needs
 
--- src/lib.rt:41:9
 start-requires : tie.Need-start-requires
 start-requires c κs = search needs
 
--- src/lib.rt:35:9
 formula-requires : tie.Need-formula-requires
 formula-requires c κs = search needs
 
--- src/lib.rt:43:5
 finish-requires : tie.Need-finish-requires
 finish-requires c κs = search needs
 
--- src/lib.rt:22:1
 same-length : tie.Need-same-length
 same-length c = search needs
 
--- src/lib.rt:22:1
 same-length-2 : tie.Need-same-length-2
 same-length-2 c = omega (arith, c .before .before .before .before .before .before .before .before .before .formula .kept .1 .1 .0, c .before .before .before .before .before .before .before .before .before .before .before .before .before .before .before .enter-types .kept .0, c .before .before .before .before .before .before .before .before .before .before .before .before .before .before .before .before .before .before .before .clear-words .kept .0)
 
--- src/lib.rt:22:1
 returns : tie.Need-returns
 returns c = runs (c .before .before .before .before .before .before .before .before .before .before .before .before .before .before .before .before .before .before .before .before .before .before .before .before .before .args .formula .now) (c .before .before .before .before .before .before .before .before .before .before .before .before .before .before .before .before .before .before .before .before .before .before .before .before .before .args .environment .now) (c .before .before .before .before .before .before .before .before .before .before .before .before .before .before .before .before .before .before .before .before .before .before .before .before .before .args .types .now) (c .before .before .before .before .before .before .before .before .before .before .before .before .before .before .before .before .before .before .before .before .before .before .before .before .before .args .size) (c .before .before .before .before .before .before .before .before .before .before .before .before .before .before .before .before .before .before .before .before .before .before .before .before .before .args .budget) (c .before .before .before .before .before .before .before .before .before .before .start .result) (c .before .before .before .before .before .before .before .before .before .formula .result) (c .before .before .finish .result) (c .before .before .before .before .before .before .before .before .before .before .before .before .before .before .before .before .before .before .before .before .before .before .before .before .before .args .work .now) (c .before .before .before .before .before .before .before .before .before .before .before .before .before .before .before .before .before .before .before .clear-words .last .0) (c .before .before .before .before .before .before .before .before .before .before .before .before .before .before .before .enter-types .last .0) (c .before .before .before .before .before .before .before .before .before .formula .last .1 .1 .0) (c .before .before .before .before .before .before .before .before .before .before .before .before .before .before .before .before .before .before .before .before .before .before .before .before .before .args .output .now) (c .before .before .before .before .before .before .before .before .before .formula .last .1 .1 .1 .0) (c .before .before .finish .last .1 .0) (c .before .before .before .before .before .before .before .before .before .before .start .ensures) (c .before .before .before .before .before .before .before .before .before .before .before .before .before .before .before .before .before .before .before .clear-words .ensures) (c .before .before .before .before .before .before .before .before .before .before .before .before .before .before .before .enter-types .ensures) (c .before .before .before .before .before .before .before .before .before .formula .ensures) (c .before .before .finish .ensures)
 

@@ -6,12 +6,10 @@ use Rattle.typecheck.proofs.shorter.Tie as tie
 use Rattle.typecheck.proofs.shorter.Reads as reads
 use Rattle.typecheck.proofs.shorter.Lts as lts
 
--- src/lib.rt:47:1
 returns : tie.Need-returns
 unfolding smaller
 returns c = yes-lt _ _ _ _ _ (c .if1 .taken) refl
 
--- src/lib.rt:47:1
 returns-2 : tie.Need-returns-2
 unfolding smaller
 returns-2 c = no-lt _ _ _ _ _ (c .if1 .left) refl

@@ -11,47 +11,36 @@ use Rattle.runner.proofs.judge.Reads as judge-reads
 use Rattle.typecheck.proofs.run.Reads as run-reads
 use Rattle.typecheck.proofs.shorter.Reads as shorter-reads
 
--- src/lib.rt:65:21
 add-shorter : tie.Need-add-shorter
 add-shorter c = search needs
 
--- src/lib.rt:65:9
 shorter-requires : tie.Need-shorter-requires
 shorter-requires c κs = search needs
 
--- src/lib.rt:73:9
 slice-relend-prefix-run : tie.Need-slice-relend-prefix-run
 slice-relend-prefix-run c = smaller-le _ _ _ (c .before .shorter .ensures)
 
--- src/lib.rt:73:9
 slice-aggregate-run : tie.Need-slice-aggregate-run
 slice-aggregate-run c = sym (length-take-le _ _ (smaller-le _ _ _ (c .before .before .shorter .ensures)))
 
--- src/lib.rt:66:9
 run-requires : tie.Need-run-requires
 run-requires c κs = search needs
 
--- src/lib.rt:75:19
 slice-reshare-prefix-judge : tie.Need-slice-reshare-prefix-judge
 slice-reshare-prefix-judge c = lent-reach _ _ (c .before .before .before .before .before .before .before .before .before .before .before .before .args .work .now) (c .before .before .before .before .run .last .1 .1 .1 .1 .1 .1 .0) (c .before .before .before .before .before .before .before .shorter .ensures) (c .before .before .before .before .run .kept .1 .1 .1 .1 .1 .1 .0)
 
--- src/lib.rt:75:19
 slice-aggregate-judge : tie.Need-slice-aggregate-judge
 slice-aggregate-judge c = lent-count _ _ (c .before .before .before .before .before .before .before .before .before .before .before .before .before .args .work .now) (c .before .before .before .before .before .run .last .1 .1 .1 .1 .1 .1 .0) (c .before .before .before .before .before .before .before .before .shorter .ensures) (c .before .before .before .before .before .run .kept .1 .1 .1 .1 .1 .1 .0)
 
--- src/lib.rt:75:5
 judge-requires : tie.Need-judge-requires
 judge-requires c κs = search needs
 
--- src/lib.rt:54:1
 same-length : tie.Need-same-length
 same-length c = search needs
 
--- src/lib.rt:54:1
 same-length-2 : tie.Need-same-length-2
 same-length-2 c = search needs
 
--- src/lib.rt:54:1
 returns : tie.Need-returns
 returns c = walks-lent (c .before .before .before .before .before .before .before .before .before .before .before .before .before .before .before .before .before .args .formula .now) (c .before .before .before .before .before .before .before .before .before .before .before .before .before .before .before .before .before .args .environment .now) (c .before .before .before .before .before .before .before .before .before .before .before .before .before .before .before .before .before .args .types .now) (c .before .before .before .before .before .before .before .before .before .before .before .before .before .before .before .before .before .args .size) (c .before .before .before .before .before .before .before .before .before .before .before .before .before .before .before .before .before .args .budget) (c .before .before .before .before .before .before .before .before .before .before .before .before .shorter .result) (c .before .before .before .before .before .before .before .before .before .run .result) (c .before .before .judge .result) (c .before .before .before .before .before .before .before .before .before .before .before .before .before .before .before .before .before .args .work .now) (c .before .before .before .before .before .before .before .before .before .run .last .1 .1 .1 .1 .1 .1 .0) (c .before .before .before .before .before .before .before .before .before .before .before .before .before .before .before .before .before .args .output .now) (c .before .before .before .before .before .before .before .before .before .run .last .1 .1 .1 .1 .1 .0) (c .before .before .judge .last .1 .0) (c .before .before .before .before .before .before .before .before .before .before .before .before .shorter .ensures) (c .before .before .before .before .before .before .before .before .before .run .kept .1 .1 .1 .1 .1 .1 .0) (c .before .before .before .before .before .before .before .before .before .run .ensures) (c .before .before .judge .ensures)
 

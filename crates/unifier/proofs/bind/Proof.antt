@@ -12,70 +12,54 @@ use Rattle.unifier.proofs.bind.Reads as reads
 use Rattle.unifier.proofs.bind.Lts as lts
 use Rattle.unifier.proofs.seek.Reads as seek-reads
 
--- src/lib.rt:344:9
 seek-requires : tie.Need-seek-requires
 seek-requires c κs = search needs
 
--- src/lib.rt:346:23
 cast-at : tie.Need-cast-at
 cast-at c = search needs
 
--- src/lib.rt:346:18
 mul-at : tie.Need-mul-at
 mul-at c = search needs
 
--- src/lib.rt:347:9
 mul-words : tie.Need-mul-words
 mul-words c = search needs
 
--- src/lib.rt:347:9
 slice-write-words : tie.Need-slice-write-words
 slice-write-words c = search needs
 
--- src/lib.rt:348:15
 add-words : tie.Need-add-words
 add-words c = search needs
 
--- src/lib.rt:348:9
 mul-words-2 : tie.Need-mul-words-2
 mul-words-2 c = search needs
 
--- src/lib.rt:348:9
 slice-write-words-2 : tie.Need-slice-write-words-2
 slice-write-words-2 c = simp length-set (omega arith)
 
--- src/lib.rt:349:9
 same-length : tie.Need-same-length
 same-length c = search needs
 
--- src/lib.rt:349:9
 returns : tie.Need-returns
 unfolding unifiedAs bindAt
 returns c = sym (assign-bound _ _ _ _ _ _ (sym (c .before .before .seek .ensures) ∙ told-no _ _ (c .before .if1 .taken)))
 
--- src/lib.rt:352:9
 same-length-2 : tie.Need-same-length-2
 same-length-2 c = search needs
 
--- src/lib.rt:352:9
 returns-2 : tie.Need-returns-2
 unfolding unifiedAs
 returns-2 c = sym (assign-circular _ _ _ _ _ _ (sym (c .before .before .seek .ensures) ∙ told-yes _ _ (c .if2 .taken)))
 
--- src/lib.rt:355:9
 same-length-3 : tie.Need-same-length-3
 same-length-3 c = search needs
 
--- src/lib.rt:355:9
 returns-3 : tie.Need-returns-3
 unfolding unifiedAs
 returns-3 c = sym (assign-spent _ _ _ _ _ (sym (c .before .before .before .seek .ensures) ∙ told-spent _ _ (c .if3 .taken)))
 
--- src/lib.rt:340:1
 same-length-4 : tie.Need-same-length-4
 same-length-4 c = search needs
 
--- src/lib.rt:340:1
 returns-4 : tie.Need-returns-4
 unfolding unifiedAs
 returns-4 c = sym (assign-broken _ _ _ _ _ (sym (c .before .before .before .seek .ensures) ∙ told-broken _ _ (c .before .if2 .left) (c .before .before .if1 .left) (c .if3 .left)))

@@ -14,52 +14,42 @@ use Rattle.unifier.proofs.compare.Tie as tie
 use Rattle.unifier.proofs.compare.Reads as reads
 use Rattle.unifier.proofs.compare.Lts as lts
 
--- src/lib.rt:267:9
 returns : tie.Need-returns
 unfolding taken taskOf meet nodeOf sameAtom verdictOf
 returns c = rw (c .if1 .taken)
 
--- src/lib.rt:270:9
 returns-2 : tie.Need-returns-2
 unfolding taken nodeOf
 returns-2 c = ap (λ t. done t (c .before .before .before .before .args .left)) (sym (task-right _ _ _ _ _ _ _ _ (c .before .before .before .before .pre) (c .before .before .if1 .left) (c .if2 .taken)))
 
--- src/lib.rt:273:9
 returns-3 : tie.Need-returns-3
 unfolding taken taskOf nodeOf
 returns-3 c = rw (meet-differ _ _ _ _ _ _ (c .before .before .before .before .before .if1 .left) (c .before .before .before .if2 .left) (c .if3 .taken))
 
--- src/lib.rt:262:1
 returns-4 : tie.Need-returns-4
 unfolding taken taskOf meet nodeOf sameAtom verdictOf
 returns-4 c = rw (sym (c .before .before .before .before .if3 .left), c .before .before .before .match .keys1, eq-eqb _ _ (c .if4 .taken))
 
--- src/lib.rt:262:1
 returns-5 : tie.Need-returns-5
 unfolding taken taskOf meet nodeOf sameAtom verdictOf
 returns-5 c = rw (sym (c .before .before .before .before .if3 .left), c .before .before .before .match .keys1, ne-eqb _ _ (c .if4 .left))
 
--- src/lib.rt:262:1
 returns-6 : tie.Need-returns-6
 unfolding taken taskOf meet nodeOf sameAtom verdictOf
 returns-6 c = rw (sym (c .before .if3 .left), c .match .keys2)
 
--- src/lib.rt:262:1
 returns-7 : tie.Need-returns-7
 unfolding taken taskOf meet nodeOf sameAtom verdictOf
 returns-7 c = rw (sym (c .before .if3 .left), c .match .keys3)
 
--- src/lib.rt:262:1
 returns-8 : tie.Need-returns-8
 unfolding taken nodeOf
 returns-8 c = ap (λ t. done t (c .before .before .before .before .before .before .before .before .before .before .args .left)) (sym (task-plain _ _ _ _ _ _ _ _ (c .before .if5 .left) (c .if6 .taken) (c .before .before .before .if3 .left)))
 
--- src/lib.rt:262:1
 returns-9 : tie.Need-returns-9
 unfolding nodeOf
 returns-9 c = absurd (no-seventh _ _ _ (c .before .before .before .before .before .before .before .before .before .pre) (c .before .before .before .before .before .before .before .if1 .left) (c .before .match .rest .0 .0 .1) (c .before .match .rest .0 .1) (c .before .match .rest .1) (inl (c .if5 .taken)))
 
--- src/lib.rt:262:1
 returns-10 : tie.Need-returns-10
 unfolding nodeOf
 returns-10 c = absurd (no-seventh _ _ _ (c .before .before .before .before .before .before .before .before .before .before .pre) (c .before .before .before .before .before .before .before .before .if1 .left) (c .before .before .match .rest .0 .0 .1) (c .before .before .match .rest .0 .1) (c .before .before .match .rest .1) (inr (c .if6 .left)))

@@ -7,15 +7,12 @@ use Rattle.unifier.proofs.occurs.Lts as lts
 use Rattle.unifier.proofs.seek.Reads as seek-reads
 use Rattle.unifier.proofs.tell.Reads as tell-reads
 
--- src/lib.rt:278:9
 seek-requires : tie.Need-seek-requires
 seek-requires c κs = search needs
 
--- src/lib.rt:279:5
 tell-requires : tie.Need-tell-requires
 tell-requires c κs = search needs
 
--- src/lib.rt:274:1
 returns : tie.Need-returns
 returns c = c .tell .ensures ∙ c .before .seek .ensures
 

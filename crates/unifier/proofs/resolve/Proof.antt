@@ -16,50 +16,39 @@ Inv-loop words count budget at₀ left₀ at left = arrive words count (at .0) l
 abbrev μ-loop : tie.MeasureT-loop
 μ-loop words count budget at₀ left₀ at left = left
 
--- src/lib.rt:193:5
 loop-holds : tie.Need-loop-holds Inv-loop μ-loop
 loop-holds c = refl
 
--- src/lib.rt:194:13
 node-at-requires : tie.Need-node-at-requires Inv-loop μ-loop
 node-at-requires c κs = search needs
 
--- src/lib.rt:196:23
 enum-known-found : tie.Need-enum-known-found Inv-loop μ-loop
 enum-known-found c = search needs
 
--- src/lib.rt:197:17
 returns : tie.Need-returns Inv-loop μ-loop
 unfolding arrived foundOf
 returns c = sym (arrive-here _ _ _ _ _ (sym (c .before .before .before .node-at .ensures .0) ∙ ap foundOf (c .before .found .given .1)) (subst Settled (c .before .found .given .1) (c .before .before .before .node-at .ensures .1))) ∙ c .before .before .before .before .loop .inv
 
--- src/lib.rt:200:17
 enum-told : tie.Need-enum-told Inv-loop μ-loop
 enum-told c = search needs
 
--- src/lib.rt:200:17
 returns-2 : tie.Need-returns-2 Inv-loop μ-loop
 unfolding arrived foundOf
 returns-2 c = sym (arrive-broken _ _ _ _ (sym (c .before .before .node-at .ensures .0) ∙ ap foundOf (c .enum-told .given .1))) ∙ c .before .before .before .loop .inv
 
--- src/lib.rt:202:25
 enum-known-found-2 : tie.Need-enum-known-found-2 Inv-loop μ-loop
 enum-known-found-2 c = search needs
 
--- src/lib.rt:204:21
 returns-3 : tie.Need-returns-3 Inv-loop μ-loop
 unfolding arrived foundOf
 returns-3 c = sym (arrive-short _ _ _ _ _ (sym (c .before .before .before .before .node-at .ensures .0) ∙ ap foundOf (c .before .before .found2 .given .1)) (c .if1 .taken)) ∙ c .before .before .before .before .before .loop .inv
 
--- src/lib.rt:206:17
 sub-left : tie.Need-sub-left Inv-loop μ-loop
 sub-left c = omega arith
 
--- src/lib.rt:193:5
 loop-less : tie.Need-loop-less Inv-loop μ-loop
 loop-less c = omega arith
 
--- src/lib.rt:193:5
 loop-again : tie.Need-loop-again Inv-loop μ-loop
 unfolding foundOf
 loop-again c = sym (arrive-next _ _ _ _ _ (sym (c .before .before .before .before .node-at .ensures .0) ∙ ap foundOf (c .before .before .found2 .given .1)) (c .if1 .left)) ∙ c .before .before .before .before .before .loop .inv

@@ -7,15 +7,12 @@ use Rattle.unifier.proofs.solved.Lts as lts
 use Rattle.unifier.proofs.tell.Reads as tell-reads
 use Rattle.unifier.proofs.test.Reads as test-reads
 
--- src/lib.rt:439:9
 test-requires : tie.Need-test-requires
 test-requires c κs = search needs
 
--- src/lib.rt:440:5
 tell-requires : tie.Need-tell-requires
 tell-requires c κs = search needs
 
--- src/lib.rt:435:1
 returns : tie.Need-returns
 returns c = c .tell .ensures ∙ c .before .test .ensures
 

@@ -10,78 +10,61 @@ use Rattle.unifier.proofs.take_up.Lts as lts
 use Rattle.unifier.proofs.compare.Reads as compare-reads
 use Rattle.unifier.proofs.resolve.Reads as resolve-reads
 
--- src/lib.rt:296:9
 returns : tie.Need-returns
 unfolding taken
 returns c = sym (take-none _ _ _ _ _ (c .if1 .taken))
 
--- src/lib.rt:298:42
 sub-resolve : tie.Need-sub-resolve
 sub-resolve c = search needs
 
--- src/lib.rt:298:9
 resolve-requires : tie.Need-resolve-requires
 resolve-requires c κs = search needs
 
--- src/lib.rt:300:28
 enum-told : tie.Need-enum-told
 enum-told c = search needs
 
--- src/lib.rt:301:29
 enum-told-2 : tie.Need-enum-told-2
 enum-told-2 c = search needs
 
--- src/lib.rt:302:22
 enum-known-first : tie.Need-enum-known-first
 enum-known-first c = search needs
 
--- src/lib.rt:303:17
 resolve-requires-2 : tie.Need-resolve-requires-2
 resolve-requires-2 c κs = search needs
 
--- src/lib.rt:305:36
 enum-told-3 : tie.Need-enum-told-3
 enum-told-3 c = search needs
 
--- src/lib.rt:306:37
 enum-told-4 : tie.Need-enum-told-4
 enum-told-4 c = search needs
 
--- src/lib.rt:307:30
 enum-known-second : tie.Need-enum-known-second
 enum-known-second c = search needs
 
--- src/lib.rt:309:25
 returns-2 : tie.Need-returns-2
 unfolding taken arrived
 returns-2 c = sym (take-same _ _ _ _ _ (c .before .before .before .before .before .before .before .before .before .before .before .if1 .left) _ _ (sym (c .before .before .before .before .before .before .before .before .before .before .resolve .ensures) ∙ ap arrived (c .before .before .before .before .before .before .before .before .first .given .1)) _ _ (sym (c .before .before .before .before .before .before .resolve2 .ensures) ∙ ap arrived (c .before .before .before .before .second .given .1)) (c .if2 .taken))
 
--- src/lib.rt:311:21
 compare-requires : tie.Need-compare-requires
 unfolding arrived
 compare-requires c κs = arrive-stands _ _ _ _ _ _ (sym (c .before .before .before .before .before .before .before .before .before .before .resolve .ensures) ∙ ap arrived (c .before .before .before .before .before .before .before .before .first .given .1)) .1
 
--- src/lib.rt:292:1
 returns-3 : tie.Need-returns-3
 unfolding taken arrived
 returns-3 c = sym (take-left-spent _ _ _ _ _ (c .before .before .before .if1 .left) (sym (c .before .before .resolve .ensures) ∙ ap arrived (c .enum-told .given .1)))
 
--- src/lib.rt:292:1
 returns-4 : tie.Need-returns-4
 unfolding taken arrived
 returns-4 c = sym (take-left-broken _ _ _ _ _ (c .before .before .before .if1 .left) (sym (c .before .before .resolve .ensures) ∙ ap arrived (c .enum-told2 .given .1)))
 
--- src/lib.rt:292:1
 returns-5 : tie.Need-returns-5
 unfolding taken arrived
 returns-5 c = sym (take-right-spent _ _ _ _ _ (c .before .before .before .before .before .before .before .if1 .left) _ _ (sym (c .before .before .before .before .before .before .resolve .ensures) ∙ ap arrived (c .before .before .before .before .first .given .1)) (sym (c .before .before .resolve2 .ensures) ∙ ap arrived (c .enum-told3 .given .1)))
 
--- src/lib.rt:292:1
 returns-6 : tie.Need-returns-6
 unfolding taken arrived
 returns-6 c = sym (take-right-broken _ _ _ _ _ (c .before .before .before .before .before .before .before .if1 .left) _ _ (sym (c .before .before .before .before .before .before .resolve .ensures) ∙ ap arrived (c .before .before .before .before .first .given .1)) (sym (c .before .before .resolve2 .ensures) ∙ ap arrived (c .enum-told4 .given .1)))
 
--- src/lib.rt:292:1
 returns-7 : tie.Need-returns-7
 unfolding arrived
 returns-7 c = c .compare .ensures ∙ sym (take-task _ _ _ _ _ (c .before .before .before .before .before .before .before .before .before .before .before .before .if1 .left) _ _ (sym (c .before .before .before .before .before .before .before .before .before .before .before .resolve .ensures) ∙ ap arrived (c .before .before .before .before .before .before .before .before .before .first .given .1)) _ _ (sym (c .before .before .before .before .before .before .before .resolve2 .ensures) ∙ ap arrived (c .before .before .before .before .before .second .given .1)) (c .before .if2 .left))

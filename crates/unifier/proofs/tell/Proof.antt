@@ -5,22 +5,18 @@ use Rattle.unifier.proofs.tell.Tie as tie
 use Rattle.unifier.proofs.tell.Reads as reads
 use Rattle.unifier.proofs.tell.Lts as lts
 
--- src/lib.rt:262:1
 returns : tie.Need-returns
 unfolding toldAs
 returns c = rw (c .match .keys1)
 
--- src/lib.rt:262:1
 returns-2 : tie.Need-returns-2
 unfolding toldAs
 returns-2 c = rw (c .match .keys2)
 
--- src/lib.rt:262:1
 returns-3 : tie.Need-returns-3
 unfolding toldAs
 returns-3 c = rw (c .match .keys3)
 
--- src/lib.rt:262:1
 returns-4 : tie.Need-returns-4
 unfolding toldAs
 returns-4 c = simp (ne-eqb _ _ (c .match .rest .0 .0 .1), ne-eqb _ _ (c .match .rest .0 .1), ne-eqb _ _ (c .match .rest .1))

@@ -8,42 +8,33 @@ use Rattle.unifier.proofs.visit.Reads as reads
 use Rattle.unifier.proofs.visit.Lts as lts
 use Rattle.unifier.proofs.resolve.Reads as resolve-reads
 
--- src/lib.rt:218:9
 resolve-requires : tie.Need-resolve-requires
 resolve-requires c κs = search needs
 
--- src/lib.rt:220:22
 enum-known-found : tie.Need-enum-known-found
 enum-known-found c = search needs
 
--- src/lib.rt:222:17
 returns : tie.Need-returns
 unfolding arrived
 returns c = sym (reach-short _ _ _ _ _ _ (sym (c .before .before .before .before .resolve .ensures) ∙ ap arrived (c .before .before .found .given .1)) (c .if1 .taken))
 
--- src/lib.rt:224:36
 sub-t11 : tie.Need-sub-t11
 sub-t11 c = search needs
 
--- src/lib.rt:226:28
 enum-told : tie.Need-enum-told
 enum-told c = search needs
 
--- src/lib.rt:227:29
 enum-told-2 : tie.Need-enum-told-2
 enum-told-2 c = search needs
 
--- src/lib.rt:215:1
 returns-2 : tie.Need-returns-2
 unfolding arrived
 returns-2 c = sym (reach-done _ _ _ _ _ _ (sym (c .before .before .before .before .resolve .ensures) ∙ ap arrived (c .before .before .found .given .1)) (c .if1 .left))
 
--- src/lib.rt:215:1
 returns-3 : tie.Need-returns-3
 unfolding arrived
 returns-3 c = sym (reach-spent _ _ _ _ (sym (c .before .before .resolve .ensures) ∙ ap arrived (c .enum-told .given .1)))
 
--- src/lib.rt:215:1
 returns-4 : tie.Need-returns-4
 unfolding arrived
 returns-4 c = sym (reach-broken _ _ _ _ (sym (c .before .before .resolve .ensures) ∙ ap arrived (c .enum-told2 .given .1)))

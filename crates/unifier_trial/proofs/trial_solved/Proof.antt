@@ -8,42 +8,33 @@ use Rattle.unifier_trial.proofs.trial_solved.Reads as reads
 use Rattle.unifier_trial.proofs.trial_solved.Lts as lts
 use Rattle.unifier.proofs.solved.Reads as solved-reads
 
--- src/lib.rt:45:9
 solved-requires : tie.Need-solved-requires
 solved-requires c κs = search needs
 
--- src/lib.rt:47:19
 enum-known-told : tie.Need-enum-known-told
 enum-known-told c = search needs
 
--- src/lib.rt:51:18
 enum-known-told-2 : tie.Need-enum-known-told-2
 enum-known-told-2 c = search needs
 
--- src/lib.rt:55:24
 enum-told : tie.Need-enum-told
 enum-told c = search needs
 
--- src/lib.rt:56:25
 enum-told-2 : tie.Need-enum-told-2
 enum-told-2 c = search needs
 
--- src/lib.rt:40:1
 returns : tie.Need-returns
 unfolding toldAs
 returns c = sym (sym (c .before .before .before .solved .ensures) ∙ ap told (c .before .told .given .1))
 
--- src/lib.rt:40:1
 returns-2 : tie.Need-returns-2
 unfolding toldAs
 returns-2 c = sym (sym (c .before .before .before .solved .ensures) ∙ ap told (c .before .told2 .given .1))
 
--- src/lib.rt:40:1
 returns-3 : tie.Need-returns-3
 unfolding toldAs
 returns-3 c = sym (sym (c .before .before .solved .ensures) ∙ ap told (c .enum-told .given .1))
 
--- src/lib.rt:40:1
 returns-4 : tie.Need-returns-4
 unfolding toldAs
 returns-4 c = sym (sym (c .before .before .solved .ensures) ∙ ap told (c .enum-told2 .given .1))
