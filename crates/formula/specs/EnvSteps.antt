@@ -14,7 +14,7 @@ use Rattle.types.specs.declared.Place.{Place}
 use Rattle.types.specs.declared.TypeEnd.{TypeEnd}
 use Rattle.types.specs.declared.TypeEnd.the-variants as T
 use Rattle.types.specs.Ty.{Ty, spell}
-use Rattle.types.specs.Record.{TypeAt, got, malformed, deep, typeAt}
+use Rattle.types.specs.Record.{TypeAt, got, malformed, deep, typeAt, reach}
 use Rattle.types.specs.Code.{endOf}
 use Rattle.types.specs.Spellings.{read-stands, bytes-at}
 use Rattle.heads.specs.declared.Byte.{Byte}
@@ -28,7 +28,7 @@ use Rattle.formula.specs.declared.Entered.{Entered}
 use Rattle.formula.specs.declared.Entered.the-variants.{Wrong, Typed}
 use Rattle.formula.specs.Environment.{Entry, lacks, holds, Entries, first, lookup, spellEntry, spellEntries}
 use Rattle.heads.specs.Reads.{reach-all}
-use Rattle.heads.specs.Heads.{reach, pick, place, byteOf, byteAt, onByte, onWord, wordAt, nameAt}
+use Rattle.heads.specs.Heads.{pick, place, byteOf, byteAt, onByte, onWord, wordAt, nameAt}
 use Rattle.formula.specs.Parse.{Parsed, parsed, too-long, faulty, formOf}
 use Rattle.formula.specs.EnvParse.{entryAt, typedBy, freshBy, entryBy, entriesFrom, capped, environmentOf, placesFrom, Cell, Table}
 use Rattle.formula.specs.EnvTold.{empty, blank, answerOf}

@@ -13,7 +13,7 @@ use Rattle.types.specs.declared.Name.{Name}
 use Rattle.types.specs.declared.Place.{Place}
 use Rattle.types.specs.declared.TypeEnd.{TypeEnd}
 use Rattle.types.specs.declared.TypeEnd.the-variants as T
-use Rattle.types.specs.Record.{TypeAt, got, malformed, deep, typeAt}
+use Rattle.types.specs.Record.{TypeAt, got, malformed, deep, typeAt, reach}
 use Rattle.types.specs.Code.{endOf}
 use Rattle.heads.specs.declared.Byte.{Byte}
 use Rattle.heads.specs.declared.Byte.the-variants as B
@@ -40,7 +40,7 @@ use Rattle.formula.specs.declared.Out.{Out}
 use Rattle.formula.specs.declared.Out.the-variants.{Next, Stop}
 use Rattle.formula.specs.Tree.{Spelling, Decl, Expr, extension, truth, binary, associative, unary, quantified, ascribed, explicit, Exprs, none, more, Pred, relational, connective, junction, negation, quantification, simple, multiple, application, Preds, end, also, Target, Formula, expression, predicate, becomes, becomes-in, becomes-such}
 use Rattle.heads.specs.Reads.{reach-all}
-use Rattle.heads.specs.Heads.{reach, pick, place, byteAt, onByte, fewAt, exprHead, predHead, declHead, targetAt}
+use Rattle.heads.specs.Heads.{pick, place, byteAt, onByte, fewAt, exprHead, predHead, declHead, targetAt}
 use Rattle.formula.specs.Reader.{Got, ok, bad, andThen, forget, after, onNext, many, moved, ownOf, declareOf, closed, closing, closedOf, typeGot, typeIn, noType, spelledIn, spellingIn}
 use Rattle.formula.specs.Parse.{declBy, declIf, declAt, declsAt, exprBy, predBy, exprIf, predIf, exprDeep, predDeep, exprAt, predAt, exprsAt, predsAt, targetBy, targetIn, pairIn, targetsAt, pairsAt, becomesBy, becomesAt, rootBy, start, formulaAt, finish, whole, parsedBy, parseOf, formOf}
 use Rattle.types.specs.Limits.{max-bytes, max-depth, levels, max-slots, max-opened}

@@ -478,9 +478,6 @@ module _ (names : ℕ) (s : List ℕ) (bytes : (i : ℕ) → getD s i 0 < 256) w
   -- ---- formulas, where a name is known
 
   module _ (some : 0 < names) where
-    zeroth : Target
-    zeroth = record { place = 0; name = 0 }
-
     pub TargetUp : St → ℕ → Type 0
     TargetUp st q = (a : Target) × (a .name < names) × UpTo s (st .at .0) q (spell-target a)
 

@@ -101,9 +101,6 @@ module _ (s : List ℕ) where
   step-as : {st t : St} {x : List ℕ} {k l o q : ℕ} → Step s st x k o t → k ≡ l → o ≡ q → Step s st x l q t
   step-as a h k = record { stand = a .stand; owns = let i = a .owns in omega arith; limit = a .limit; opens = let i = a .opens in omega arith }
 
-  step-ends : {st t : St} {x : List ℕ} {k o : ℕ} → Step s st x k o t → t .at .0 ≡ st .at .0 + length x
-  step-ends a = a .stand .ends
-
   pub step-moved : (st : St) (x : List ℕ) (e : Place) → Stand s (st .at .0) x (e .0) → Step s st x 0 0 (moved e st)
   unfolding moved
   step-moved st x e h = record { stand = h; owns = omega arith; limit = λ l. l; opens = omega arith }

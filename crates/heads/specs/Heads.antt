@@ -3,7 +3,7 @@
 use Prim.Native.Nat.{ℕ, zero, suc, _+_, _*_}
 use mathlib.Core.Bool.{Bool, true, false}
 use mathlib.Core.List.{List, [], _∷_}
-use lib.ListN.{drop, take}
+use lib.ListN.{drop}
 use lib.Dec.{leb, ltb, eqb}
 use Rattle.types.specs.declared.Name.{Name}
 use Rattle.types.specs.declared.Place.{Place}
@@ -34,10 +34,6 @@ place p = record { 0 = p }
 
 abbrev pub name : ℕ → Name
 name n = record { 0 = n }
-
--- the bytes that a place can number: whatever follows them is as if it were not there
-unfoldable pub reach : List ℕ → List ℕ
-reach s = take 4294967295 s
 
 -- ---- parts of a body
 

@@ -12,7 +12,8 @@ use Rattle.heads.specs.declared.Byte.{Byte}
 use Rattle.heads.specs.declared.Byte.the-variants as B
 use Rattle.heads.specs.declared.Word.{Word}
 use Rattle.heads.specs.declared.Word.the-variants as W
-use Rattle.heads.specs.Heads.{place, reach, byteOf, byteAt, onByte, onWord, wordAt, nameAt, opAt, countAt, fewAt}
+use Rattle.types.specs.Record.{reach}
+use Rattle.heads.specs.Heads.{place, byteOf, byteAt, onByte, onWord, wordAt, nameAt, opAt, countAt, fewAt}
 
 -- a stream within reach is its own reach
 pub reach-all : (s : List ℕ) → length s ≤ 4294967295 → reach s ≡ s

@@ -4,7 +4,8 @@
 ghost use mathlib.Core.Path.{_≡_};
 ghost use Prim.Native.Nat.{ℕ, _+_, _*_, _-_, _<_, _≤_};
 ghost use lib.ListN.{length, getD};
-ghost use Rattle.heads.specs.Heads.{reach, byteAt, wordAt, nameAt, opAt, countAt, fewAt, exprBody, exprHead, predBody, predHead, predEnd, declBody, declHead, declEnd, targetAt};
+ghost use Rattle.types.specs.Record.{reach};
+ghost use Rattle.heads.specs.Heads.{byteAt, wordAt, nameAt, opAt, countAt, fewAt, exprBody, exprHead, predBody, predHead, predEnd, declBody, declHead, declEnd, targetAt};
 use types::Name;
 use types::Place;
 
@@ -96,7 +97,7 @@ pub fn byte_at(s: &[u8], at: Place) -> Byte
 }
 
 // The two bytes at a place, the lower first.
-pub fn word_at(s: &[u8], at: Place) -> Word
+fn word_at(s: &[u8], at: Place) -> Word
     ensures { λ r. ⌜ r ≡ wordAt (reach (now (s .entry))) at ⌝ }
 {
     match byte_at(s, at) {

@@ -20,7 +20,8 @@ use Rattle.types.specs.declared.Atom.the-variants as At
 use Rattle.types.specs.Code.{atomIs}
 use Rattle.heads.specs.declared.DeclHead.{DeclHead}
 use Rattle.heads.specs.declared.DeclHead.the-variants as De
-use Rattle.heads.specs.Heads.{reach, byteAt}
+use Rattle.types.specs.Record.{reach}
+use Rattle.heads.specs.Heads.{byteAt}
 use Rattle.unification.specs.Arena as A
 use Rattle.unification.specs.Make.{build}
 use Rattle.makers.specs.declared.Made.{Made}

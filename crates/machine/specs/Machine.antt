@@ -1,5 +1,5 @@
 -- The walk's machine: what each step does to the state, the arena, the book and the output.
--- A specification is put together from two forms, `then` and `test`; `specs/Forms` has their laws. A stopped state passes through every step.
+-- A specification is put together from two forms, `then` and `test`; crate `forms` has their laws. A stopped state passes through every step.
 use Prim.Native.Nat.{ℕ, zero, suc, _+_, _-_, _*_, _/_, _%_}
 use mathlib.Core.Bool.{Bool, true, false}
 use mathlib.Core.List.{List}
@@ -45,9 +45,9 @@ stoppedOf n v = test (eqb (v .stop) 0) (λ _. record { at = v .at; from = v .fro
 unfoldable pub placedOf : ℕ → State → State
 placedOf p v = test (eqb (v .stop) 0) (λ _. record { at = record { 0 = p }; from = v .from; last = v .last; nodes = v .nodes; budget = v .budget; slots = v .slots; met = v .met; bound = v .bound; bytes = v .bytes; over = v .over; stop = v .stop }) (λ _. v)
 
--- at the offset after a type's head; the streams that are walked have none past 65,536
+-- at the offset after a type's head, if a place can number it
 unfoldable pub passedOf : ℕ → State → State
-passedOf e v = test (leb e 65536) (λ _. placedOf e v) (λ _. stoppedOf 2 v)
+passedOf e v = test (leb e 4294967295) (λ _. placedOf e v) (λ _. stoppedOf 2 v)
 
 -- the last reference
 unfoldable pub gaveOf : ℕ → State → State

@@ -6,14 +6,14 @@ use lib.ListN.{drop}
 use lib.Dec.{eqb, ltb}
 use Rattle.types.specs.Limits.{levels, max-names}
 use Rattle.types.specs.Ty.{Atom, bool, int, given}
-use Rattle.types.specs.Record.{Head, atomic, power, product, wrong, headOf}
+use Rattle.types.specs.Record.{Head, atomic, power, product, wrong, headOf, reach}
 use Rattle.heads.specs.declared.Byte.{Byte}
 use Rattle.heads.specs.declared.Byte.the-variants.{Missing, Of}
 use Rattle.heads.specs.declared.DeclHead.{DeclHead}
 use Rattle.heads.specs.declared.DeclHead.the-variants.{Plain, Typed, Annotated}
 use Rattle.heads.specs.declared.DeclAt.{DeclAt}
 use Rattle.heads.specs.declared.DeclAt.the-variants.{Wrong, Is}
-use Rattle.heads.specs.Heads.{reach, byteAt, declHead, declEnd}
+use Rattle.heads.specs.Heads.{byteAt, declHead, declEnd}
 use Rattle.machine.specs.declared.State.{State}
 use Rattle.forms.specs.Forms.{test, then}
 use Rattle.machine.specs.Machine.{Mach, withSt, cell, wordOf, stoppedOf, placedOf, passedOf, gaveOf, enterOf, listOf, makeOf, expectOf, leaveOf, rememberOf, enrolOf, pushBoundOf}

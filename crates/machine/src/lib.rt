@@ -81,11 +81,11 @@ pub fn stopped(n: u8, st: State) -> State
     v
 }
 
-// The walk stands at the offset after a type's head. The streams that are walked have none past 65,536.
+// The walk stands at the offset after a type's head, if a place can number it.
 fn passed(e: usize, st: State) -> State
     ensures { λ r. ⌜ r ≡ passedOf e st ⌝ }
 {
-    if e <= 65536 {
+    if e <= 0xFFFFFFFF {
         return placed(Place(e as u32), st);
     }
     stopped(2, st)
@@ -488,7 +488,7 @@ fn atom(work: &mut [u32], size: u32, a: Atom, st: State) -> State
 }
 
 // The type record where the walk stands, as nodes: parts first, left first.
-pub fn lift(s: &[u8], work: &mut [u32], size: u32, left: u32, st: State) -> State
+fn lift(s: &[u8], work: &mut [u32], size: u32, left: u32, st: State) -> State
     ensures { λ r. ⌜ ((out : List ℕ) → mach size r (now (work .exit)) out ≡ liftOf left (now (s .entry)) (mach size st (now (work .entry)) out)) ⌝ }
 {
     if st.stop != 0 {

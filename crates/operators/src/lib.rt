@@ -13,7 +13,7 @@ pub const NOTHING: u8 = 0;
 pub const INTEGERS: u8 = 1;
 // BOOL: P(BOOL)
 pub const BOOLEANS: u8 = 2;
-// TRUE, FALSE and bool(..): BOOL
+// TRUE, FALSE: BOOL
 pub const TRUTH: u8 = 3;
 // pred, succ: P(ℤ × ℤ)
 pub const SUCCESSION: u8 = 4;

@@ -22,7 +22,8 @@ use Rattle.heads.specs.declared.DeclHead.{DeclHead}
 use Rattle.heads.specs.declared.DeclHead.the-variants.{Plain, Typed, Annotated}
 use Rattle.heads.specs.declared.DeclAt.{DeclAt}
 use Rattle.heads.specs.declared.DeclAt.the-variants.{Is}
-use Rattle.heads.specs.Heads.{place, reach, byteAt, declHead, declEnd}
+use Rattle.types.specs.Record.{reach}
+use Rattle.heads.specs.Heads.{place, byteAt, declHead, declEnd}
 use Rattle.heads.specs.Reads.{reach-all}
 use Rattle.meter.specs.Meter.{Out}
 use Rattle.unification.specs.Arena.{U}

@@ -1,5 +1,5 @@
 -- A type's record read as nodes.
--- After this file `liftOf` at a spelled type runs the walk's `lift`, and goes past the type; `skipOf` goes past it and does nothing else.
+-- After this file `liftOf` at a spelled type runs the walk's `lift`, and goes past the type.
 use Prim.Native.Nat.{ℕ, zero, suc, _+_, _≤_, _<_}
 use mathlib.Core.Path.{_≡_, refl, sym, _∙_, ap, subst}
 use mathlib.Core.List.{List, [], _∷_, _++_}

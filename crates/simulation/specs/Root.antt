@@ -1,4 +1,4 @@
--- The walk of a whole formula: the theorem that this crate is for.
+-- The walk of a whole formula, root and all; `Whole` starts it from a fresh machine.
 -- From a machine with nothing in its arena, its books empty but for the entries of the environment, and no output: where the bytes spell a formula
 -- that fits, the machine ends as the formula's operations end. Where they end at all it holds their bench, the names that they met and their slots; it
 -- stops with 7 where they are spent, with 6 where the arena is full, and never otherwise.

@@ -42,7 +42,7 @@ placed-eq p v e = test-yes (eqb (v .stop) 0) _ _ (eq-eqb (v .stop) 0 e)
 
 pub passed-eq : (e : ℕ) (v : State) → v .stop ≡ 0 → e ≤ 65536 → passedOf e v ≡ standing e (v .from .0) (v .last .0) v
 unfolding passedOf
-passed-eq e v g l = test-yes (leb e 65536) _ _ (le-leb e 65536 l) ∙ placed-eq e v g
+passed-eq e v g l = test-yes (leb e 4294967295) _ _ (le-leb e 4294967295 (omega arith)) ∙ placed-eq e v g
 
 pub gave-eq : (r : ℕ) (v : State) → v .stop ≡ 0 → gaveOf r v ≡ standing (v .at .0) (v .from .0) r v
 unfolding gaveOf

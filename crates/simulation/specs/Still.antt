@@ -12,13 +12,14 @@ use Rattle.heads.specs.declared.DeclHead.{DeclHead}
 use Rattle.heads.specs.declared.DeclHead.the-variants.{Plain, Typed, Annotated}
 use Rattle.heads.specs.declared.DeclAt.{DeclAt}
 use Rattle.heads.specs.declared.DeclAt.the-variants.{Wrong, Is}
-use Rattle.heads.specs.Heads.{reach, byteAt, declHead, declEnd}
+use Rattle.types.specs.Record.{reach}
+use Rattle.heads.specs.Heads.{byteAt, declHead, declEnd}
 use Rattle.machine.specs.declared.State.{State}
 use Rattle.operators.specs.declared.Item.{Item}
 use Rattle.machine.specs.declared.Parts.{Parts}
 use Rattle.forms.specs.Forms.{test, then}
 use Rattle.machine.specs.Machine.{Mach, withSt, stoppedOf, placedOf, passedOf, gaveOf, boundOf, paidOf, enterOf, emitOf, twoOf, fourOf, listOf, makeOf, expectOf, leaveOf, rememberOf, enrolOf, pushBoundOf}
-use Rattle.machine.specs.Types.{skipOf, liftOf, freeOf, boundIdentifierOf, noteOf, notesOf, meetsOf, spelledOf, ascriptionBy, ascriptionOf, annotationBy, claimOf, declarationBy, declarationOf, timesOf, declareOf}
+use Rattle.machine.specs.Types.{skipOf, liftOf, freeOf, boundIdentifierOf, notesOf, meetsOf, spelledOf, ascriptionBy, ascriptionOf, annotationBy, claimOf, declarationBy, declarationOf, timesOf, declareOf}
 use Rattle.operators.specs.Operators.{scriptAt, itemAt}
 use Rattle.machine.specs.Scripts.{chosenOf, itemOf, itemsOf, playOf}
 use Rattle.simulation.specs.Stand.{test-no}
@@ -40,10 +41,6 @@ still-stopped n v h = test-no (eqb (v .stop) 0) _ _ (ne-eqb (v .stop) 0 h)
 pub still-placed : (n : ℕ) (v : State) → Stopped v → placedOf n v ≡ v
 unfolding placedOf
 still-placed n v h = test-no (eqb (v .stop) 0) _ _ (ne-eqb (v .stop) 0 h)
-
-pub still-passed : (n : ℕ) (v : State) → Stopped v → passedOf n v ≡ v
-unfolding passedOf
-still-passed n v h = test-both (leb n 65536) _ _ v (still-placed n v h) (still-stopped 2 v h)
 
 pub still-gave : (n : ℕ) (v : State) → Stopped v → gaveOf n v ≡ v
 unfolding gaveOf

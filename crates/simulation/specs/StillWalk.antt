@@ -16,7 +16,8 @@ use Rattle.heads.specs.declared.ExprAt.{ExprAt}
 use Rattle.heads.specs.declared.ExprAt.the-variants as EA
 use Rattle.heads.specs.declared.PredAt.{PredAt}
 use Rattle.heads.specs.declared.PredAt.the-variants as PA
-use Rattle.heads.specs.Heads.{reach, exprHead, predHead}
+use Rattle.types.specs.Record.{reach}
+use Rattle.heads.specs.Heads.{exprHead, predHead}
 use Rattle.machine.specs.declared.State.{State}
 use Rattle.operators.specs.declared.Plan.{Plan}
 use Rattle.forms.specs.Forms.{then}

@@ -1,6 +1,6 @@
--- Types in the stream: noted, compared, ascribed; declarations.
--- After this file `notesOf`, `meetsOf`, `spelledOf`, `ascriptionOf`, `claimOf` and `declareOf` run the pieces of the walk that bear their names,
--- where the bytes spell the type or the declarations.
+-- Types in the stream: passed over, noted, compared.
+-- After this file `skipOf` goes past a spelled type and does nothing else, and `notesOf`, `meetsOf` and `spelledOf` run the pieces of the walk that
+-- bear their names where the bytes spell the type.
 use Prim.Native.Nat.{ℕ, zero, suc, _+_, _≤_, _<_}
 use mathlib.Core.Path.{_≡_, refl, sym, _∙_, ap, subst}
 use mathlib.Core.List.{List, [], _∷_, _++_}

@@ -3,9 +3,13 @@
 use Prim.Native.Nat.{ℕ, zero, suc, _+_, _*_}
 use mathlib.Core.Bool.{Bool, true, false}
 use mathlib.Core.List.{List, [], _∷_}
-use lib.ListN.{drop}
+use lib.ListN.{take, drop}
 use lib.Dec.{ltb, eqb}
 use Rattle.types.specs.Ty.{Atom, bool, int, given, Ty, base, pow, prod}
+
+-- the bytes that a place can number: whatever follows them is as if it were not there
+unfoldable pub reach : List ℕ → List ℕ
+reach s = take 4294967295 s
 
 -- what a record begins with, and the place after its body
 pub data Head : Type 0 where

@@ -18,7 +18,7 @@ use Rattle.types.specs.declared.TypeEnd.the-variants.{End, Malformed, De
 use Rattle.types.specs.declared.Place.{Place}
 use Rattle.types.specs.Ty as T
 use Rattle.types.specs.Record as R
-use Rattle.types.specs.Record.{givenOf, headOf, TypeAt, got, malformed, deep, andThen, deepBy, typeBy, typeAt, pick}
+use Rattle.types.specs.Record.{reach, givenOf, headOf, TypeAt, got, malformed, deep, andThen, deepBy, typeBy, typeAt, pick}
 use Rattle.types.specs.Code.{atomIs, headIs, endOf}
 
 pub drop-next : (l : List ℕ) (i : ℕ) → i < length l → drop i l ≡ getD l i 0 ∷ drop (i + 1) l
@@ -254,7 +254,8 @@ module _ (x y : TypeAt) (z : ℕ → TypeAt) (h : x ≡ andThen y (λ t f. andTh
   end-product k q g = g ∙ both-end y z p (sym k ∙ e) ∙ sym (ap endOf h)
 
 -- bytes that places can number are all there
-pub in-reach : (left names : ℕ) (s : List ℕ) (p : ℕ) → length s ≤ 4294967295 → typeAt left names (take 4294967295 s) p ≡ typeAt left names s p
+pub in-reach : (left names : ℕ) (s : List ℕ) (p : ℕ) → length s ≤ 4294967295 → typeAt left names (reach s) p ≡ typeAt left names s p
+unfolding reach
 in-reach left names s p h = ap (λ (l : List ℕ). typeAt left names l p) (take-all 4294967295 s h)
 
 pub taken : (n : ℕ) (s : List ℕ) → length (take n s) ≤ n

@@ -1,8 +1,8 @@
 // Type records, and the kinds of number that the checker keeps apart.
 ghost use mathlib.Core.Path.{_≡_};
 ghost use Prim.Native.Nat.{ℕ, _+_, _≤_, _<_};
-ghost use lib.ListN.{length, take, drop};
-ghost use Rattle.types.specs.Record.{givenOf, headOf, typeAt};
+ghost use lib.ListN.{length, drop};
+ghost use Rattle.types.specs.Record.{reach, givenOf, headOf, typeAt};
 ghost use Rattle.types.specs.Code.{headIs, endOf};
 
 // ---- the limits, each once; as the definitions have them in specs/Limits
@@ -131,7 +131,7 @@ fn end_at(s: &[u8], names: u32, at: Place, left: u32) -> TypeEnd
 
 // Tests one type record in a stream. Bytes that no place can number are as if they were not there.
 pub fn type_end(s: &[u8], names: u32, at: Place, left: u32) -> TypeEnd
-    ensures { λ r. ⌜ r ≡ endOf (typeAt left names (take 4294967295 (now (s .entry))) (at .0)) ⌝ }
+    ensures { λ r. ⌜ r ≡ endOf (typeAt left names (reach (now (s .entry))) (at .0)) ⌝ }
 {
     if s.len() > 0xFFFFFFFF {
         return end_at(&s[..0xFFFFFFFF], names, at, left);

@@ -22,7 +22,8 @@ use Rattle.heads.specs.declared.ExprAt.{ExprAt}
 use Rattle.heads.specs.declared.ExprAt.the-variants as EA
 use Rattle.heads.specs.declared.PredAt.{PredAt}
 use Rattle.heads.specs.declared.PredAt.the-variants as PA
-use Rattle.heads.specs.Heads.{reach, exprHead, predHead, fewAt}
+use Rattle.types.specs.Record.{reach}
+use Rattle.heads.specs.Heads.{exprHead, predHead, fewAt}
 use Rattle.operators.specs.declared.Plan.{Plan}
 use Rattle.forms.specs.Forms.{test, then}
 use Rattle.machine.specs.Machine.{Mach, withSt, placedOf, gaveOf, paidOf, leaveOf}

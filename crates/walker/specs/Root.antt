@@ -5,7 +5,8 @@ use lib.Dec.{eqb, ltb}
 use Rattle.types.specs.Limits.{max-depth, levels}
 use Rattle.heads.specs.declared.Byte.{Byte}
 use Rattle.heads.specs.declared.Byte.the-variants.{Missing, Of}
-use Rattle.heads.specs.Heads.{reach, byteAt, fewAt}
+use Rattle.types.specs.Record.{reach}
+use Rattle.heads.specs.Heads.{byteAt, fewAt}
 use Rattle.forms.specs.Forms.{test, then}
 use Rattle.machine.specs.Machine.{Mach, withSt, cell, wordOf, placedOf, paidOf, makeOf, expectOf}
 use Rattle.machine.specs.Types.{declareOf, timesOf}
@@ -64,7 +65,7 @@ becomesSuchOf s env n p m =
     then (declareOf s env n a) λ b.
     suchThatOf s env (m .st .slots) n p b
 
--- an assignment of kind k at p, once it is paid: n targets from e on
+-- an assignment of kind k at p, once it is paid and the machine stands at the first of its n targets
 unfoldable pub assignedBy : List ℕ → List ℕ → ℕ → ℕ → ℕ → Mach → Mach
 assignedBy s env k n p m =
     test (eqb k 0x30) (λ _. pairsOf s env n m)

@@ -6,7 +6,6 @@ use heads::ExprAt;
 use heads::ExprHead;
 use heads::PredAt;
 use heads::PredHead;
-use machine::Parts;
 use machine::State;
 use operators::Plan;
 use types::Name;
@@ -52,7 +51,7 @@ fn next(mode: u8, y: NodeRef, t: NodeRef) -> NodeRef
 // ---- the cycle: expressions and predicates
 
 // An expression, with what stands below it.
-pub fn expr(
+fn expr(
     s: &[u8],
     env: &[u8],
     work: &mut [u32],
@@ -356,7 +355,7 @@ fn quant(
 }
 
 // A predicate, with what stands below it.
-pub fn pred(
+fn pred(
     s: &[u8],
     env: &[u8],
     work: &mut [u32],
@@ -498,7 +497,7 @@ fn pairs(
     v
 }
 
-// n targets after a first one: their product, which leans left.
+// The product of n targets, which leans left, where the first of them was walked last.
 fn products(
     s: &[u8],
     env: &[u8],

@@ -1,4 +1,4 @@
-use Rattle.heads.specs.Heads.{reach}
+use Rattle.types.specs.Record.{reach}
 use borrow.Author.Needs.{needs}
 use native.Mathlib.Omega.{arith}
 use Prim.Native.Nat.{ℕ, _<_, _≤_, _+_, _*_}

@@ -1,4 +1,4 @@
-use Rattle.heads.specs.Heads.{reach}
+use Rattle.types.specs.Record.{reach}
 use Rattle.formula.specs.Steps.{decls-none, decls-next}
 use Rattle.formula.specs.Parse.{declsAt}
 use Rattle.formula.specs.Reader.{after}

@@ -1,4 +1,4 @@
-use Rattle.heads.specs.Heads.{reach}
+use Rattle.types.specs.Record.{reach}
 use Rattle.formula.specs.Steps.{pairs-none, pairs-next}
 use Rattle.formula.specs.Parse.{pairsAt}
 use Rattle.formula.specs.Reader.{after}

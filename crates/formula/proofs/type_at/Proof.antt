@@ -1,5 +1,4 @@
 use mathlib.Core.Path.{_≡_, refl, sym, ap, _∙_}
-use Rattle.heads.specs.Heads.{reach}
 use borrow.Author.Needs.{needs}
 use Rattle.formula.proofs.type_at.Statement.{statement}
 use Rattle.formula.proofs.type_at.Tie as tie
@@ -11,7 +10,6 @@ type-end-requires : tie.Need-type-end-requires
 type-end-requires c κs = search needs
 
 returns : tie.Need-returns
-unfolding reach
 returns c = c .type-end .ensures
 
 pub type-at-spec : {M : Type 1} → statement M

@@ -1,6 +1,7 @@
 -- `type_end` is `end_at` on the bytes that places can number.
 use native.Mathlib.Omega.{arith}
 use mathlib.Core.Path.{_≡_, sym, ap, _∙_}
+use Rattle.types.specs.Record.{reach}
 use Rattle.types.specs.Code.{endOf}
 use Rattle.types.specs.Steps.{in-reach, taken, taken-all}
 use borrow.Author.Needs.{needs}
@@ -15,6 +16,7 @@ end-at-requires : tie.Need-end-at-requires
 end-at-requires c κs = taken 4294967295 (c .before .before .before .args .s .now)
 
 returns : tie.Need-returns
+unfolding reach
 returns c = search needs
 
 end-at-requires-2 : tie.Need-end-at-requires-2
