@@ -1,17 +1,23 @@
 //! Inference recurses over records (at most 65 levels) and over nodes, as deep as the types of a formula are. The deepest formulas that the limits
-//! allow answer in a thread of 2 MiB, at the largest capacity.
+//! allow answer in a thread of 2 MiB, at the largest capacity. `INFER_STACK` sets another size in bytes, to see how little suffices.
 
 use port::infer_in;
 
-const STACK: usize = 2 * 1024 * 1024;
 const CAPACITY: u32 = 32_768;
+
+fn stack() -> usize {
+    match std::env::var("INFER_STACK") {
+        Ok(bytes) => bytes.parse().expect("INFER_STACK is a number of bytes"),
+        Err(_) => 2 * 1024 * 1024,
+    }
+}
 
 fn in_small_stack(run: impl FnOnce() + Send + 'static) {
     if !port::PROVED {
         eprintln!("skipped: the proved entries are not linked");
         return;
     }
-    std::thread::Builder::new().stack_size(STACK).spawn(run).unwrap().join().unwrap();
+    std::thread::Builder::new().stack_size(stack()).spawn(run).unwrap().join().unwrap();
 }
 
 /// Number and length of an answer in ample room.
@@ -55,6 +61,33 @@ fn the_deepest_records() {
         let mut formula = vec![0x25; 62];
         formula.extend([0x22, 0, 0x03, 0x03]);
         assert_eq!(ask(&formula, 1).0, 0);
+    });
+}
+
+/// `before` so many times, `core`, and `after` as many times.
+fn nested(before: &[u8], times: usize, core: &[u8], after: &[u8]) -> Vec<u8> {
+    [before.repeat(times), core.to_vec(), after.repeat(times)].concat()
+}
+
+#[test]
+fn the_deepest_records_of_each_kind() {
+    in_small_stack(|| {
+        let deepest = [
+            ("maplets", nested(&[0x07, 0], 64, &[0x03], &[0x03])),
+            ("sums", nested(&[0x08, 5, 2, 0], 64, &[0x03], &[0x03])),
+            ("negations of numbers", nested(&[0x09, 10], 64, &[0x03], &[])),
+            ("comprehensions", nested(&[0x0A, 2, 1, 0x11, 0x41, 0x20], 63, &[0x03], &[])),
+            ("ascriptions", nested(&[0x0B], 64, &[0x03], &[0x41])),
+            ("stated types", nested(&[0x0C, 0x41, 0x09, 10], 32, &[0x03], &[])),
+            ("truths of finite sets", nested(&[0x05, 1, 0, 0x06, 0x27], 21, &[0x05, 1, 0, 0x03], &[])),
+            ("equalities of truths", nested(&[0x22, 0, 0x06], 32, &[0x20], &[0x04, 4])),
+            ("connectives", nested(&[0x23], 64, &[0x20], &[0x20])),
+            ("junctions", nested(&[0x24, 2, 0], 64, &[0x20], &[0x20])),
+            ("quantifiers", nested(&[0x26, 1, 0x11, 0x41], 63, &[0x20], &[])),
+        ];
+        for (kind, formula) in deepest {
+            assert_eq!(ask(&formula, 1).0, 0, "{kind}");
+        }
     });
 }
 
