@@ -1,6 +1,7 @@
 // What a record begins with: its kind, its operator, its count, and the place where its first part stands. The test of form
-// and the walk read every record of a formula by these functions. Any bytes may be given; of a stream that is longer than
-// a place can number, the bytes past the last place are as if they were not there.
+// and the walk read expressions, predicates and declarations by these functions; type records have `types::head_at`. Any
+// bytes may be given; of a stream that is longer than a place can number, the bytes past the last place are as if they were
+// not there.
 ghost use mathlib.Core.Path.{_≡_};
 ghost use Prim.Native.Nat.{ℕ, _+_, _*_, _-_, _<_, _≤_};
 ghost use lib.ListN.{length, getD};
