@@ -23,6 +23,8 @@ use Rattle.heads.specs.declared.PredAt.{PredAt}
 use Rattle.heads.specs.declared.PredAt.the-variants as P
 use Rattle.heads.specs.declared.DeclAt.{DeclAt}
 use Rattle.heads.specs.declared.DeclAt.the-variants as D
+use Rattle.heads.specs.declared.RootAt.{RootAt}
+use Rattle.heads.specs.declared.RootAt.the-variants as R
 use Rattle.heads.specs.Counts.{atomic-operators, binary-operators, associative-operators, unary-operators, quantifiers, relations, least-listed, least-joined}
 
 abbrev pub pick : {A : Type 0} → Bool → A → A → A
@@ -138,3 +140,15 @@ declEnd (Annotated e) = e
 -- a target: a record 01 and nothing else
 unfoldable pub targetAt : ℕ → List ℕ → Place → Word
 targetAt names s p = onByte W.Missing (byteAt s p) λ k q. pick (eqb k 0x01) (nameAt names s q) W.Missing
+
+-- an assignment of kind k whose count stands at p
+unfoldable pub assignmentAt : List ℕ → ℕ → Place → RootAt
+assignmentAt s k p =
+    onByte R.Wrong (fewAt s p) λ n e.
+    pick (eqb k 0x30) (R.Becomes n e)
+    (pick (eqb k 0x31) (R.BecomesIn n e)
+    (pick (eqb k 0x32) (R.BecomesSuch n e) R.Wrong))
+
+-- what a whole formula begins with
+unfoldable pub rootHead : List ℕ → Place → RootAt
+rootHead s p = onByte R.Wrong (byteAt s p) λ k q. pick (ltb k 0x20) R.Expression (pick (ltb k 0x30) R.Predicate (assignmentAt s k q))

@@ -6,7 +6,7 @@ ghost use mathlib.Core.Path.{_≡_};
 ghost use Prim.Native.Nat.{ℕ, _+_, _*_, _-_, _<_, _≤_};
 ghost use lib.ListN.{length, getD};
 ghost use Rattle.types.specs.Record.{reach};
-ghost use Rattle.heads.specs.Heads.{byteAt, wordAt, nameAt, opAt, countAt, fewAt, exprBody, exprHead, predBody, predHead, predEnd, declBody, declHead, declEnd, targetAt};
+ghost use Rattle.heads.specs.Heads.{byteAt, wordAt, nameAt, opAt, countAt, fewAt, exprBody, exprHead, predBody, predHead, predEnd, declBody, declHead, declEnd, targetAt, assignmentAt, rootHead};
 use types::Name;
 use types::Place;
 
@@ -73,6 +73,17 @@ pub enum PredAt {
 pub enum DeclAt {
     Wrong,
     Is(DeclHead),
+}
+
+// What a whole formula begins with: an expression, a predicate, or one of the three assignments, with the count of its
+// targets and the place of the first.
+pub enum RootAt {
+    Wrong,
+    Expression,
+    Predicate,
+    Becomes(u8, Place),
+    BecomesIn(u8, Place),
+    BecomesSuch(u8, Place),
 }
 
 // ---- parts of a body
@@ -342,6 +353,39 @@ pub fn target_at(s: &[u8], names: u32, at: Place) -> Word
                 return name_at(s, names, p);
             }
             Word::Missing
+        }
+    }
+}
+
+// An assignment of kind k whose count stands at p.
+fn assignment_at(s: &[u8], k: u8, p: Place) -> RootAt
+    ensures { λ r. ⌜ r ≡ assignmentAt (reach (now (s .entry))) k p ⌝ }
+{
+    match few_at(s, p) {
+        Byte::Missing => RootAt::Wrong,
+        Byte::Of(n, e) => match k {
+            0x30 => RootAt::Becomes(n, e),
+            0x31 => RootAt::BecomesIn(n, e),
+            0x32 => RootAt::BecomesSuch(n, e),
+            _ => RootAt::Wrong,
+        },
+    }
+}
+
+// The head of the formula at a place. Of an expression or a predicate only its class is told: its own head says the rest.
+pub fn root_head(s: &[u8], at: Place) -> RootAt
+    ensures { λ r. ⌜ r ≡ rootHead (reach (now (s .entry))) at ⌝ }
+{
+    match byte_at(s, at) {
+        Byte::Missing => RootAt::Wrong,
+        Byte::Of(k, p) => {
+            if k < 0x20 {
+                return RootAt::Expression;
+            }
+            if k < 0x30 {
+                return RootAt::Predicate;
+            }
+            assignment_at(s, k, p)
         }
     }
 }

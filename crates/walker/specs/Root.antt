@@ -1,12 +1,12 @@
 -- Assignments, and a whole formula.
 use Prim.Native.Nat.{ℕ, zero, suc, _+_, _-_, _*_}
 use mathlib.Core.List.{List}
-use lib.Dec.{eqb, ltb}
 use Rattle.types.specs.Limits.{max-depth, levels}
-use Rattle.heads.specs.declared.Byte.{Byte}
-use Rattle.heads.specs.declared.Byte.the-variants.{Missing, Of}
+use Rattle.types.specs.declared.Place.{Place}
+use Rattle.heads.specs.declared.RootAt.{RootAt}
+use Rattle.heads.specs.declared.RootAt.the-variants.{Wrong, Expression, Predicate, Becomes, BecomesIn, BecomesSuch}
 use Rattle.types.specs.Record.{reach}
-use Rattle.heads.specs.Heads.{byteAt, fewAt}
+use Rattle.heads.specs.Heads.{rootHead}
 use Rattle.forms.specs.Forms.{test, then}
 use Rattle.machine.specs.Machine.{Mach, withSt, cell, wordOf, placedOf, paidOf, makeOf, expectOf}
 use Rattle.machine.specs.Types.{declareOf, timesOf}
@@ -65,28 +65,20 @@ becomesSuchOf s env n p m =
     then (declareOf s env n a) λ b.
     suchThatOf s env (m .st .slots) n p b
 
--- an assignment of kind k at p, once it is paid and the machine stands at the first of its n targets
-unfoldable pub assignedBy : List ℕ → List ℕ → ℕ → ℕ → ℕ → Mach → Mach
-assignedBy s env k n p m =
-    test (eqb k 0x30) (λ _. pairsOf s env n m)
-    (λ _. test (eqb k 0x31) (λ _. becomesInOf s env n m)
-    (λ _. test (eqb k 0x32) (λ _. becomesSuchOf s env n p m)
-    (λ _. halts m)))
-
-unfoldable pub assignmentBy : List ℕ → List ℕ → ℕ → Byte → Mach → Mach
-assignmentBy s env k Missing m = halts m
-assignmentBy s env k (Of n e) m =
+-- an assignment, once it is paid: the machine stands at its first target, and f does the rest
+abbrev pub assignedBy : (Mach → Mach) → Place → Mach → Mach
+assignedBy f e m =
     then (paidOf (m .st)) λ v.
-    then (placedOf (e .0) v) λ w.
-    assignedBy s env k n (m .st .at .0) (withSt w m)
+    then (placedOf (e .0) v) λ w. f (withSt w m)
 
--- by the kind of the root, k; what follows it stands at p
-unfoldable pub rootBy : List ℕ → List ℕ → Byte → Mach → Mach
-rootBy s env Missing m = halts m
-rootBy s env (Of k p) m =
-    test (ltb k 0x20) (λ _. exprOf levels s env m)
-    (λ _. test (ltb k 0x30) (λ _. predOf levels s env m)
-    (λ _. then (fewAt (reach s) p) λ n. assignmentBy s env k n m))
+-- a formula by its head
+unfoldable pub rootBy : List ℕ → List ℕ → RootAt → Mach → Mach
+rootBy s env Wrong m = halts m
+rootBy s env Expression m = exprOf levels s env m
+rootBy s env Predicate m = predOf levels s env m
+rootBy s env (Becomes n e) m = assignedBy (pairsOf s env n) e m
+rootBy s env (BecomesIn n e) m = assignedBy (becomesInOf s env n) e m
+rootBy s env (BecomesSuch n e) m = assignedBy (becomesSuchOf s env n (m .st .at .0)) e m
 
 unfoldable pub formulaOf : List ℕ → List ℕ → Mach → Mach
-formulaOf s env m = then (byteAt (reach s) (m .st .at)) λ b. rootBy s env b m
+formulaOf s env m = then (rootHead (reach s) (m .st .at)) λ h. rootBy s env h m

@@ -1,11 +1,11 @@
 // The walk over a formula's bytes: expressions and predicates call each other with the remaining depth falling. A record is known by its head,
 // read by the functions of the test of form. Every function takes any bytes: where the form was tested no malformed record is met, and elsewhere
-// the walk stops with 2.
-use heads::Byte;
+// the walk may stop with 2.
 use heads::ExprAt;
 use heads::ExprHead;
 use heads::PredAt;
 use heads::PredHead;
+use heads::RootAt;
 use machine::State;
 use operators::Plan;
 use types::Name;
@@ -17,7 +17,7 @@ ghost use mathlib.Core.List.{List};
 ghost use lib.ListN.{length, getD};
 ghost use Rattle.machine.specs.Machine.{mach};
 ghost use Rattle.walker.specs.Walk.{meetOf, nextOf, oneOf, twoOf, allOf, childrenOf, predsOf, quantOf, predQuantOf, ascribedOf, bodyOf, predBodyOf, exprOf, explicitOf, ownedOf, predOf};
-ghost use Rattle.walker.specs.Root.{pairsOf, productsOf, belongsOf, becomesInOf, targetsOf, sharesOf, suchThatOf, becomesSuchOf, assignedBy, formulaOf};
+ghost use Rattle.walker.specs.Root.{pairsOf, productsOf, belongsOf, becomesInOf, targetsOf, sharesOf, suchThatOf, becomesSuchOf, formulaOf};
 
 // A child against what it is compared with, unless the mode compares nothing.
 fn meet(
@@ -641,28 +641,6 @@ fn becomes_such(
     such_that(s, env, work, output, size, first, n, place, b)
 }
 
-// An assignment of kind k at a place, once it is paid: its n targets, and what they become.
-fn assigned(
-    s: &[u8],
-    env: &[u8],
-    work: &mut [u32],
-    output: &mut [u8],
-    size: u32,
-    k: u8,
-    n: u8,
-    place: Place,
-    st: State,
-) -> State
-    ensures { λ r. ⌜ mach size r (now (work .exit)) (now (output .exit)) ≡ assignedBy (now (s .entry)) (now (env .entry)) k n (place .0) (mach size st (now (work .entry)) (now (output .entry))) ⌝ }
-{
-    match k {
-        0x30 => pairs(s, env, work, output, size, n, st),
-        0x31 => becomes_in(s, env, work, output, size, n, st),
-        0x32 => becomes_such(s, env, work, output, size, n, place, st),
-        _ => machine::stopped(2, st),
-    }
-}
-
 // A whole formula.
 pub fn formula(
     s: &[u8],
@@ -675,22 +653,21 @@ pub fn formula(
     ensures { λ r. ⌜ mach size r (now (work .exit)) (now (output .exit)) ≡ formulaOf (now (s .entry)) (now (env .entry)) (mach size st (now (work .entry)) (now (output .entry))) ⌝ }
 {
     let at = st.at;
-    match heads::byte_at(s, at) {
-        Byte::Missing => machine::stopped(2, st),
-        Byte::Of(k, p) => {
-            if k < 0x20 {
-                return expr(s, env, work, output, size, types::LEVELS, st);
-            }
-            if k < 0x30 {
-                return pred(s, env, work, output, size, types::LEVELS, st);
-            }
-            match heads::few_at(s, p) {
-                Byte::Missing => machine::stopped(2, st),
-                Byte::Of(n, e) => {
-                    let a = machine::placed(e, machine::paid(st));
-                    assigned(s, env, work, output, size, k, n, at, a)
-                }
-            }
+    match heads::root_head(s, at) {
+        RootAt::Wrong => machine::stopped(2, st),
+        RootAt::Expression => expr(s, env, work, output, size, types::LEVELS, st),
+        RootAt::Predicate => pred(s, env, work, output, size, types::LEVELS, st),
+        RootAt::Becomes(n, e) => {
+            let a = machine::placed(e, machine::paid(st));
+            pairs(s, env, work, output, size, n, a)
+        }
+        RootAt::BecomesIn(n, e) => {
+            let a = machine::placed(e, machine::paid(st));
+            becomes_in(s, env, work, output, size, n, a)
+        }
+        RootAt::BecomesSuch(n, e) => {
+            let a = machine::placed(e, machine::paid(st));
+            becomes_such(s, env, work, output, size, n, at, a)
         }
     }
 }
