@@ -1,6 +1,7 @@
 -- The parse, step by step, as the code takes it: the code keeps the state and forgets the tree.
 use Prim.Native.Nat.{ℕ, zero, suc, _+_, _-_, _≤_, _<_}
 use native.Mathlib.Omega.{arith}
+use native.Mathlib.Decide.{ℕ-discrete, decLt}
 use native.Mathlib.Numerals.{sub-one}
 use mathlib.Core.Path.{_≡_, refl, sym, ap, _∙_}
 use mathlib.Core.Bool.{Bool, true, false}
@@ -33,14 +34,16 @@ use Rattle.heads.specs.declared.PredAt.{PredAt}
 use Rattle.heads.specs.declared.PredAt.the-variants as P
 use Rattle.heads.specs.declared.DeclAt.{DeclAt}
 use Rattle.heads.specs.declared.DeclAt.the-variants as D
+use Rattle.heads.specs.declared.RootAt.{RootAt}
+use Rattle.heads.specs.declared.RootAt.the-variants as R
 use Rattle.formula.specs.declared.St.{St}
 use Rattle.formula.specs.declared.Fault.{Fault}
 use Rattle.formula.specs.declared.Fault.the-variants.{Malformed, Beyond}
 use Rattle.formula.specs.declared.Out.{Out}
 use Rattle.formula.specs.declared.Out.the-variants.{Next, Stop}
 use Rattle.formula.specs.Tree.{Spelling, Decl, Expr, extension, truth, binary, associative, unary, quantified, ascribed, explicit, Exprs, none, more, Pred, relational, connective, junction, negation, quantification, simple, multiple, application, Preds, end, also, Target, Formula, expression, predicate, becomes, becomes-in, becomes-such}
-use Rattle.heads.specs.Reads.{reach-all}
-use Rattle.heads.specs.Heads.{pick, place, byteAt, onByte, fewAt, exprHead, predHead, declHead, targetAt}
+use Rattle.heads.specs.Reads.{reach-all, root-missing, root-expression, root-predicate, root-assignment, assignment-missing, assignment-becomes, assignment-in, assignment-such, assignment-wrong}
+use Rattle.heads.specs.Heads.{pick, place, byteAt, onByte, fewAt, exprHead, predHead, declHead, targetAt, assignmentAt, rootHead}
 use Rattle.formula.specs.Reader.{Got, ok, bad, andThen, forget, after, onNext, many, moved, ownOf, declareOf, closed, closing, closedOf, typeGot, typeIn, noType, spelledIn, spellingIn}
 use Rattle.formula.specs.Parse.{declBy, declIf, declAt, declsAt, exprBy, predBy, exprIf, predIf, exprDeep, predDeep, exprAt, predAt, exprsAt, predsAt, targetBy, targetIn, pairIn, targetsAt, pairsAt, becomesBy, becomesAt, rootBy, start, formulaAt, finish, whole, parsedBy, parseOf, formOf}
 use Rattle.types.specs.Limits.{max-bytes, max-depth, levels, max-slots, max-opened}
@@ -411,7 +414,7 @@ module _ (names : ℕ) (s : List ℕ) where
       go B.Missing k z = let x : onByte B.Missing B.Missing (λ m q. pick (leb 1 m) (B.Of m q) B.Missing) ≡ B.Of n e = rw k at h in let y : _≡_ {A = ℕ} 0 1 = cc in omega arith
       go (B.Of m q) k z = on m q (leb 1 m) refl (rw k at h) z
 
-  pub becomes-wrong : (st : St) (k : ℕ) (p : Place) → fewAt s p ≡ B.Missing → Stop (Malformed (st .at)) ≡ forget (becomesAt names s st k p)
+  becomes-wrong : (st : St) (k : ℕ) (p : Place) → fewAt s p ≡ B.Missing → Stop (Malformed (st .at)) ≡ forget (becomesAt names s st k p)
   unfolding forget becomesAt onByte
   becomes-wrong st k p e = rw e
 
@@ -424,41 +427,80 @@ module _ (names : ℕ) (s : List ℕ) where
         go zero z = absurd (few-some p n e w z)
         go (suc i) z = h i z
 
-    pub becomes-pairs : k ≡ 0x30 → after (Next (moved e st)) (pairsAt max-depth names s n) ≡ forget (becomesAt names s st k p)
+    becomes-pairs : k ≡ 0x30 → after (Next (moved e st)) (pairsAt max-depth names s n) ≡ forget (becomesAt names s st k p)
     unfolding becomesBy onNext
     becomes-pairs h = becomes-by (after (Next (moved e st)) (pairsAt max-depth names s n)) (λ m z. rw (h, z) (once (Next (moved e st)) (pairsAt max-depth names s (suc m)) (predAt 0 names s) (predAt 0 names s) (becomes (st .at .0))))
 
-    pub becomes-set : k ≡ 0x31 → after (after (Next (moved e st)) (targetsAt names s n)) (exprAt max-depth names s false) ≡ forget (becomesAt names s st k p)
+    becomes-set : k ≡ 0x31 → after (after (Next (moved e st)) (targetsAt names s n)) (exprAt max-depth names s false) ≡ forget (becomesAt names s st k p)
     unfolding becomesBy onNext
     becomes-set h = becomes-by (after (after (Next (moved e st)) (targetsAt names s n)) (exprAt max-depth names s false))
         (λ m z. rw (h, z, ← targets-next names s 0 (suc m) (Next (moved e st)) _ refl (λ x. omega arith), sub-one)
         (thrice (Next (moved e st)) (targetIn names s) (targetsAt names s m) (exprAt max-depth names s false) (λ t ts a. becomes-in (st .at .0) t ts a)))
 
-    pub becomes-that : k ≡ 0x32 → after (after (after (Next (moved e st)) (targetsAt names s n)) (declsAt names s max-depth n)) (predAt max-depth names s) ≡ forget (becomesAt names s st k p)
+    becomes-that : k ≡ 0x32 → after (after (after (Next (moved e st)) (targetsAt names s n)) (declsAt names s max-depth n)) (predAt max-depth names s) ≡ forget (becomesAt names s st k p)
     unfolding becomesBy onNext
     becomes-that h = becomes-by (after (after (after (Next (moved e st)) (targetsAt names s n)) (declsAt names s max-depth n)) (predAt max-depth names s))
         (λ m z. rw (h, z) (thrice (Next (moved e st)) (targetsAt names s (suc m)) (declsAt names s max-depth (suc m)) (predAt max-depth names s) (λ ts ds q. becomes-such (st .at .0) ts ds q)))
 
-    pub becomes-other : (k ≡ 0x30 → ⊥) → (k ≡ 0x31 → ⊥) → (k ≡ 0x32 → ⊥) → Stop (Malformed (st .at)) ≡ forget (becomesAt names s st k p)
+    becomes-other : (k ≡ 0x30 → ⊥) → (k ≡ 0x31 → ⊥) → (k ≡ 0x32 → ⊥) → Stop (Malformed (st .at)) ≡ forget (becomesAt names s st k p)
     unfolding becomesBy forget
     becomes-other a b c = becomes-by (Stop (Malformed (st .at))) (λ m z. rw (ne-eqb k 0x30 a, ne-eqb k 0x31 b, ne-eqb k 0x32 c))
 
-  pub formula-none : (st : St) → byteAt s (st .at) ≡ B.Missing → Stop (Malformed (st .at)) ≡ forget (formulaAt names s st)
+  formula-none : (st : St) → byteAt s (st .at) ≡ B.Missing → Stop (Malformed (st .at)) ≡ forget (formulaAt names s st)
   unfolding forget formulaAt onByte
   formula-none st e = rw e
 
   module _ (st : St) (k : ℕ) (p : Place) (w : byteAt s (st .at) ≡ B.Of k p) where
-    pub formula-expr : k < 0x20 → after (Next st) (exprAt levels names s false) ≡ forget (formulaAt names s st)
+    formula-expr : k < 0x20 → after (Next st) (exprAt levels names s false) ≡ forget (formulaAt names s st)
     unfolding formulaAt onByte rootBy after
     formula-expr h = rw (w, lt-ltb k 0x20 h) (forget-last (exprAt levels names s false st) expression)
 
-    pub formula-pred : 0x20 ≤ k → k < 0x30 → after (Next st) (predAt levels names s) ≡ forget (formulaAt names s st)
+    formula-pred : 0x20 ≤ k → k < 0x30 → after (Next st) (predAt levels names s) ≡ forget (formulaAt names s st)
     unfolding formulaAt onByte rootBy after
     formula-pred g h = rw (w, le-ltb k 0x20 g, lt-ltb k 0x30 h) (forget-last (predAt levels names s st) predicate)
 
-    pub formula-becomes : 0x30 ≤ k → forget (becomesAt names s st k p) ≡ forget (formulaAt names s st)
+    formula-becomes : 0x30 ≤ k → forget (becomesAt names s st k p) ≡ forget (formulaAt names s st)
     unfolding formulaAt onByte rootBy
     formula-becomes h = rw (w, le-ltb k 0x20 (omega arith), le-ltb k 0x30 h)
+
+  -- what is read below a root, by its head
+  unfoldable pub rootOut : St → RootAt → Out
+  rootOut st R.Wrong = Stop (Malformed (st .at))
+  rootOut st R.Expression = after (Next st) (exprAt levels names s false)
+  rootOut st R.Predicate = after (Next st) (predAt levels names s)
+  rootOut st (R.Becomes n e) = after (Next (moved e st)) (pairsAt max-depth names s n)
+  rootOut st (R.BecomesIn n e) = after (after (Next (moved e st)) (targetsAt names s n)) (exprAt max-depth names s false)
+  rootOut st (R.BecomesSuch n e) = after (after (after (Next (moved e st)) (targetsAt names s n)) (declsAt names s max-depth n)) (predAt max-depth names s)
+
+  assignment-out : (st : St) (k : ℕ) (p : Place) → rootOut st (assignmentAt s k p) ≡ forget (becomesAt names s st k p)
+  unfolding rootOut
+  assignment-out st k p = by-count (fewAt s p) refl
+    where
+      by-kind : (n : ℕ) (e : Place) → fewAt s p ≡ B.Of n e → Dec (k ≡ 0x30) → Dec (k ≡ 0x31) → Dec (k ≡ 0x32) → rootOut st (assignmentAt s k p) ≡ forget (becomesAt names s st k p)
+      by-kind n e h (yes a) b c = ap (rootOut st) (sym (assignment-becomes s k p n e h a)) ∙ becomes-pairs st k p n e h a
+      by-kind n e h (no a) (yes b) c = ap (rootOut st) (sym (assignment-in s k p n e h b)) ∙ becomes-set st k p n e h b
+      by-kind n e h (no a) (no b) (yes c) = ap (rootOut st) (sym (assignment-such s k p n e h c)) ∙ becomes-that st k p n e h c
+      by-kind n e h (no a) (no b) (no c) = ap (rootOut st) (sym (assignment-wrong s k p n e h a b c)) ∙ becomes-other st k p n e h a b c
+
+      by-count : (b : Byte) → fewAt s p ≡ b → rootOut st (assignmentAt s k p) ≡ forget (becomesAt names s st k p)
+      by-count B.Missing h = ap (rootOut st) (sym (assignment-missing s k p h)) ∙ becomes-wrong st k p h
+      by-count (B.Of n e) h = by-kind n e h (ℕ-discrete k 0x30) (ℕ-discrete k 0x31) (ℕ-discrete k 0x32)
+
+  root-out : (st : St) → rootOut st (rootHead s (st .at)) ≡ forget (formulaAt names s st)
+  unfolding rootOut
+  root-out st = by-byte (byteAt s (st .at)) refl
+    where
+      by-kind : (k : ℕ) (p : Place) → byteAt s (st .at) ≡ B.Of k p → Dec (k < 0x20) → Dec (k < 0x30) → rootOut st (rootHead s (st .at)) ≡ forget (formulaAt names s st)
+      by-kind k p h (yes a) b = ap (rootOut st) (sym (root-expression s (st .at) k p h a)) ∙ formula-expr st k p h a
+      by-kind k p h (no a) (yes b) = ap (rootOut st) (sym (root-predicate s (st .at) k p h (omega arith) b)) ∙ formula-pred st k p h (omega arith) b
+      by-kind k p h (no a) (no b) = ap (rootOut st) (sym (root-assignment s (st .at) k p h (omega arith))) ∙ assignment-out st k p ∙ formula-becomes st k p h (omega arith)
+
+      by-byte : (b : Byte) → byteAt s (st .at) ≡ b → rootOut st (rootHead s (st .at)) ≡ forget (formulaAt names s st)
+      by-byte B.Missing h = ap (rootOut st) (sym (root-missing s (st .at) h)) ∙ formula-none st h
+      by-byte (B.Of k p) h = by-kind k p h (decLt k 0x20) (decLt k 0x30)
+
+  pub root-by : (st : St) (g : RootAt) (r : Out) → rootHead s (st .at) ≡ g → r ≡ rootOut st g → r ≡ forget (formulaAt names s st)
+  root-by st g r e h = h ∙ ap (rootOut st) (sym e) ∙ root-out st
 
   -- the whole stream
   pub parse-long : max-bytes < length s → TooLong ≡ formOf (parseOf names s)

@@ -10,7 +10,7 @@ ghost use Rattle.types.specs.Record.{typeAt, reach};
 ghost use Rattle.types.specs.Code.{endOf};
 ghost use Rattle.types.specs.Limits.{max-bytes, max-names};
 ghost use Rattle.formula.specs.Reader.{ownOf, declareOf, closedOf, moved, typeIn, spellingIn, forget, after};
-ghost use Rattle.formula.specs.Parse.{declAt, declsAt, exprAt, exprsAt, predAt, predsAt, targetIn, targetsAt, pairIn, pairsAt, becomesAt, formulaAt, parseOf, formOf};
+ghost use Rattle.formula.specs.Parse.{declAt, declsAt, exprAt, exprsAt, predAt, predsAt, targetIn, targetsAt, pairIn, pairsAt, formulaAt, parseOf, formOf};
 ghost use Rattle.formula.specs.EnvParse.{entryAt, entriesFrom, capped, environmentOf};
 ghost use Rattle.formula.specs.EnvTold.{blank, answerOf};
 ghost use Rattle.formula.specs.EnvSteps.{enteredAt};
@@ -21,6 +21,7 @@ use heads::ExprAt;
 use heads::ExprHead;
 use heads::PredAt;
 use heads::PredHead;
+use heads::RootAt;
 use heads::Word;
 use types::Place;
 use types::TypeEnd;
@@ -383,47 +384,27 @@ fn read_pairs(s: &[u8], names: u32, left: u32, n: u8, o: Out) -> Out
     cur
 }
 
-// An assignment of kind k, whose count stands at p.
-fn read_becomes(s: &[u8], names: u32, k: u8, p: Place, st: St) -> Out
-    ensures { λ r. ⌜ r ≡ forget (becomesAt names (reach (now (s .entry))) st k p) ⌝ }
-{
-    let at = st.at;
-    match heads::few_at(s, p) {
-        Byte::Missing => Out::Stop(Fault::Malformed(at)),
-        Byte::Of(n, e) => {
-            let begin = Out::Next(moved_to(e, st));
-            match k {
-                0x30 => read_pairs(s, names, LEVELS - 1, n, begin),
-                0x31 => {
-                    let ts = read_targets(s, names, n, begin);
-                    read_expr(s, names, false, LEVELS - 1, ts)
-                }
-                0x32 => {
-                    let ts = read_targets(s, names, n, begin);
-                    let ds = read_decls(s, names, LEVELS - 1, n, ts);
-                    read_pred(s, names, LEVELS - 1, ds)
-                }
-                _ => Out::Stop(Fault::Malformed(at)),
-            }
-        }
-    }
-}
-
 // The record at the start, with all that stands below it.
 fn read_formula(s: &[u8], names: u32, st: St) -> Out
     ensures { λ r. ⌜ r ≡ forget (formulaAt names (reach (now (s .entry))) st) ⌝ }
 {
     let at = st.at;
-    match heads::byte_at(s, at) {
-        Byte::Missing => Out::Stop(Fault::Malformed(at)),
-        Byte::Of(k, p) => {
-            if k < 0x20 {
-                return read_expr(s, names, false, LEVELS, Out::Next(st));
-            }
-            if k < 0x30 {
-                return read_pred(s, names, LEVELS, Out::Next(st));
-            }
-            read_becomes(s, names, k, p, st)
+    match heads::root_head(s, at) {
+        RootAt::Wrong => Out::Stop(Fault::Malformed(at)),
+        RootAt::Expression => read_expr(s, names, false, LEVELS, Out::Next(st)),
+        RootAt::Predicate => read_pred(s, names, LEVELS, Out::Next(st)),
+        RootAt::Becomes(n, e) => {
+            let begin = Out::Next(moved_to(e, st));
+            read_pairs(s, names, LEVELS - 1, n, begin)
+        }
+        RootAt::BecomesIn(n, e) => {
+            let ts = read_targets(s, names, n, Out::Next(moved_to(e, st)));
+            read_expr(s, names, false, LEVELS - 1, ts)
+        }
+        RootAt::BecomesSuch(n, e) => {
+            let ts = read_targets(s, names, n, Out::Next(moved_to(e, st)));
+            let ds = read_decls(s, names, LEVELS - 1, n, ts);
+            read_pred(s, names, LEVELS - 1, ds)
         }
     }
 }

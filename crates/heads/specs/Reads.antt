@@ -66,6 +66,14 @@ module _ (s : List ℕ) (p : Place) (n : ℕ) (e : Place) where
   name-past names h l = rw (h, le-ltb n names l)
 
 -- what a formula begins with, by its first byte and its count
+pub root-missing : (s : List ℕ) (p : Place) → byteAt s p ≡ B.Missing → R.Wrong ≡ rootHead s p
+unfolding rootHead onByte
+root-missing s p h = rw h
+
+pub assignment-missing : (s : List ℕ) (k : ℕ) (p : Place) → fewAt s p ≡ B.Missing → R.Wrong ≡ assignmentAt s k p
+unfolding assignmentAt onByte
+assignment-missing s k p h = rw h
+
 module _ (s : List ℕ) (p : Place) (k : ℕ) (q : Place) (h : byteAt s p ≡ B.Of k q) where
   pub root-expression : k < 0x20 → R.Expression ≡ rootHead s p
   unfolding rootHead onByte

@@ -1,6 +1,5 @@
 use mathlib.Core.Path.{_≡_, refl, sym, ap, _∙_}
-use Rattle.heads.specs.Heads.{assignmentAt, onByte}
-use Rattle.heads.specs.Reads.{assignment-becomes, assignment-in, assignment-such, assignment-wrong}
+use Rattle.heads.specs.Reads.{assignment-missing, assignment-becomes, assignment-in, assignment-such, assignment-wrong}
 use borrow.Author.Needs.{needs}
 use Rattle.heads.proofs.assignment_at.Statement.{statement}
 use Rattle.heads.proofs.assignment_at.Tie as tie
@@ -18,8 +17,7 @@ enum-known-n : tie.Need-enum-known-n
 enum-known-n c = search needs
 
 returns : tie.Need-returns
-unfolding assignmentAt onByte
-returns c = rw ((sym (c .before .before .few-at .ensures) ∙ c .enum-told .given .1))
+returns c = assignment-missing _ _ _ (sym (c .before .before .few-at .ensures) ∙ c .enum-told .given .1)
 
 returns-2 : tie.Need-returns-2
 returns-2 c = assignment-becomes _ _ _ _ _ (sym (c .before .before .before .before .few-at .ensures) ∙ c .before .before .n .given .1) (c .match2 .keys1)

@@ -1,7 +1,6 @@
 use mathlib.Core.Path.{_≡_, refl, sym, ap, _∙_}
 use native.Mathlib.Omega.{arith}
-use Rattle.heads.specs.Heads.{rootHead, onByte}
-use Rattle.heads.specs.Reads.{root-expression, root-predicate, root-assignment}
+use Rattle.heads.specs.Reads.{root-missing, root-expression, root-predicate, root-assignment}
 use borrow.Author.Needs.{needs}
 use Rattle.heads.proofs.root_head.Statement.{statement}
 use Rattle.heads.proofs.root_head.Tie as tie
@@ -29,8 +28,7 @@ assignment-at-requires : tie.Need-assignment-at-requires
 assignment-at-requires c κs = search needs
 
 returns-3 : tie.Need-returns-3
-unfolding rootHead onByte
-returns-3 c = rw ((sym (c .before .before .byte-at .ensures) ∙ c .enum-told .given .1))
+returns-3 c = root-missing _ _ (sym (c .before .before .byte-at .ensures) ∙ c .enum-told .given .1)
 
 returns-4 : tie.Need-returns-4
 returns-4 c = c .assignment-at .ensures ∙ root-assignment _ _ _ _ (sym (c .before .before .before .before .before .before .byte-at .ensures) ∙ c .before .before .before .before .k .given .1) (omega (arith, c .before .if2 .left))
