@@ -398,7 +398,7 @@ module _ (names : ℕ) (s : List ℕ) (bytes : (i : ℕ) → getD s i 0 < 256) w
         fails-then (λ t a. TypeRead names s bytes (suc d) (moved e st) a t) (TypeUp (moved e st)) (ExprUp bare st) (typeIn names s left (moved e st)) _ (sound-type names s bytes (suc d) left l (moved e st)) (type-fails left (moved e st))
         (λ q u. (explicit 0 (u .0) (literal 0), not-here bare (x .0), (u .1, refl, tt), upto-after s (step-moved s st _ e (x .1) .stand) (upto-first s (u .2) (0x03 ∷ []))))
         (λ a t r. fails-last (λ u b. ExprRead names s bytes (suc d) true t b u) (ExprUp true t) (ExprUp bare st) (X true t) (explicit (st .at .0) a) (hX true t) (fX true t)
-        (λ q u. (explicit 0 a (u .0), not-here bare (x .0), (type-below r, u .1 refl, u .2), upto-after s (step-moved s st _ e (x .1) .stand) (upto-after s (r .step .stand) (u .3)))))
+        (λ q u. (explicit 0 a (u .0), not-here bare (x .0), (type-below r, (let z = u .1 refl in cc), u .2), upto-after s (step-moved s st _ e (x .1) .stand) (upto-after s (r .step .stand) (u .3)))))
 
     pred-by-fails : (h : PredHead) → PredSays s (st .at .0) (P.Is h) → Fails (PredUp st) (predBy names s left X Q st h)
     unfolding predBy PredSays Fails ExprUp PredUp ExprsUp PredsUp DeclsUp Shape-pred spell-pred
