@@ -56,11 +56,16 @@ formulas =
     ∷ (replicate 64 0x25 ++ (0x27 ∷ 0x03 ∷ []))  -- an expression at depth 65
     ∷ (replicate 64 0x25 ++ (0x26 ∷ 0x01 ∷ 0x10 ∷ 0x20 ∷ []))  -- a declaration at depth 65
     ∷ (replicate 63 0x25 ++ (0x26 ∷ 0x01 ∷ 0x12 ∷ 0x4F ∷ 0x20 ∷ []))  -- a 4F at depth 65
+    ∷ (0x05 ∷ 0x00 ∷ 0x04 ∷ (replicate 1023 0x03 ++ (0x0C ∷ 0x41 ∷ 0x03 ∷ [])))  -- 0C in front of slot 1,025: the inner record
+    ∷ (0x05 ∷ 0x00 ∷ 0x04 ∷ (replicate 1023 0x03 ++ (0x20 ∷ [])))  -- malformed before slot 1,025
+    ∷ (0x26 ∷ 0x01 ∷ 0x11 ∷ 0x4F ∷ 0x20 ∷ [])  -- 4F in a typed declaration
+    ∷ (0x05 ∷ 0x01 ∷ 0x00 ∷ 0x20 ∷ [])  -- a predicate where an expression is due
+    ∷ (0x05 ∷ 0x02 ∷ 0x00 ∷ 0x03 ∷ [])  -- the second member missing
     ∷ []
 
 pub formula-cases :
     each formula formulas ≡
-    ((0, 0) ∷ (4, 0) ∷ (4, 0) ∷ (0, 0) ∷ (5, 65) ∷ (4, 65) ∷ (4, 65) ∷ (0, 0) ∷ (5, 66) ∷ (4, 0) ∷ (4, 3) ∷ (4, 1) ∷ (4, 0) ∷ (4, 0) ∷ (4, 0) ∷ (4, 2) ∷ (4, 1) ∷ (0, 0) ∷ (4, 0) ∷ (4, 1) ∷ (4, 2) ∷ (4, 0) ∷ (0, 0) ∷ (0, 0) ∷ (5, 1026) ∷ (5, 65) ∷ (5, 66) ∷ (5, 66) ∷ [])
+    ((0, 0) ∷ (4, 0) ∷ (4, 0) ∷ (0, 0) ∷ (5, 65) ∷ (4, 65) ∷ (4, 65) ∷ (0, 0) ∷ (5, 66) ∷ (4, 0) ∷ (4, 3) ∷ (4, 1) ∷ (4, 0) ∷ (4, 0) ∷ (4, 0) ∷ (4, 2) ∷ (4, 1) ∷ (0, 0) ∷ (4, 0) ∷ (4, 1) ∷ (4, 2) ∷ (4, 0) ∷ (0, 0) ∷ (0, 0) ∷ (5, 1026) ∷ (5, 65) ∷ (5, 66) ∷ (5, 66) ∷ (5, 1028) ∷ (4, 1026) ∷ (4, 3) ∷ (4, 3) ∷ (4, 4) ∷ [])
 unfolding typeAt typeBy headOf givenOf deepBy R.andThen byteOf byteAt onByte onWord wordAt nameAt opAt countAt fewAt exprBody exprHead predBody predHead declBody declHead targetAt andThen onNext many moved ownOf declareOf closed closing typeGot typeIn noType spelledIn spellingIn declBy declIf declAt declsAt exprBy predBy exprIf predIf exprDeep predDeep exprAt predAt targetBy targetIn pairIn targetsAt pairsAt becomesBy becomesAt rootBy formulaAt finish whole parsedBy parseOf formOf numberOf formula-number placeOf
 formula-cases = refl
 
@@ -74,11 +79,12 @@ environments =
     ∷ (0x50 ∷ 0x00 ∷ [])  -- a cut entry
     ∷ (0x50 ∷ 0x00 ∷ 0x00 ∷ [])  -- a missing type
     ∷ (0x50 ∷ 0x00 ∷ 0x00 ∷ 0x44 ∷ 0x41 ∷ 0x4F ∷ [])  -- 4F inside a type
+    ∷ (0x50 ∷ 0x00 ∷ 0x00 ∷ 0x4F ∷ [])  -- 4F for a type
     ∷ (0x50 ∷ 0x00 ∷ 0x00 ∷ (replicate 63 0x43 ++ (0x41 ∷ [])))  -- a type 63 deep: depth 64
     ∷ (0x50 ∷ 0x00 ∷ 0x00 ∷ (replicate 64 0x43 ++ (0x41 ∷ [])))  -- 64 deep: depth 65
     ∷ []
 
 pub environment-cases :
-    each environment environments ≡ ((0, 0) ∷ (0, 0) ∷ (3, 4) ∷ (3, 4) ∷ (3, 0) ∷ (3, 0) ∷ (3, 3) ∷ (3, 5) ∷ (0, 0) ∷ (5, 67) ∷ [])
+    each environment environments ≡ ((0, 0) ∷ (0, 0) ∷ (3, 4) ∷ (3, 4) ∷ (3, 0) ∷ (3, 0) ∷ (3, 3) ∷ (3, 5) ∷ (3, 3) ∷ (0, 0) ∷ (5, 67) ∷ [])
 unfolding typeAt typeBy headOf givenOf deepBy R.andThen byteOf byteAt onByte onWord wordAt nameAt first lookup entryAt typedBy freshBy entryBy entriesFrom capped environmentOf formOf numberOf environment-number placeOf
 environment-cases = refl

@@ -1,6 +1,6 @@
 -- What the place of a fault means, for a whole stream: the bytes before it begin a well-formed formula (`fault-completes`), limits aside,
 -- and the stream itself spells no formula inside the limits (`faulty-none`). So the fault is no earlier than its place.
--- Where no name is known no assignment can be completed, so a name is asked for.
+-- Where no name is known no assignment can be completed, so a name is asked for where the first byte is 0x30 or above.
 use Prim.Native.Nat.{ℕ, zero, suc, _+_, _≤_, _<_}
 use native.Mathlib.Omega.{arith}
 use mathlib.Core.Path.{_≡_, refl, sym, ap, _∙_}
@@ -60,13 +60,13 @@ fits-formula names (becomes p xs) f = (f .0, fits-pairs names xs (f .1))
 fits-formula names (becomes-in p t ts a) f = (f .0, fits-targets names ts (f .1), fits-shape a names 1 0 (f .2))
 fits-formula names (becomes-such p ts ds a) f = (f .0, f .1, fits-targets names ts (f .3), fits-decls names 1 ds (f .4), fits-pred a names 1 (decls ds) (f .5))
 
-module _ (names : ℕ) (some : 0 < names) (s : List ℕ) (bytes : (i : ℕ) → getD s i 0 < 256) (f : Fault) where
-  by-fault : (g : Fault) → Fails {A = Formula} (FormulaUp names s bytes some start) (bad g) → g ≡ f → Completes names s (fault-place f)
+module _ (names : ℕ) (s : List ℕ) (some : 0x30 ≤ getD s 0 0 → 0 < names) (bytes : (i : ℕ) → getD s i 0 < 256) (f : Fault) where
+  by-fault : (g : Fault) → Fails {A = Formula} (FormulaUp names s bytes start) (bad g) → g ≡ f → Completes names s (fault-place f)
   unfolding Fails FormulaUp fault-place
   by-fault (Malformed p) u e = rw (← e) (from-start names s (p .0) (u .0) (u .1) (u .2))
   by-fault (Beyond p) u e = rw (← e) (from-start names s (p .0) (u .0) (u .1) (u .2))
 
-  whole-completes : (g : Got Formula) → Holds (λ t b. FormulaRead names s bytes start b t) g → Fails (FormulaUp names s bytes some start) g → parsedBy (andThen g λ x st. finish s st x) ≡ faulty f → Completes names s (fault-place f)
+  whole-completes : (g : Got Formula) → Holds (λ t b. FormulaRead names s bytes start b t) g → Fails (FormulaUp names s bytes start) g → parsedBy (andThen g λ x st. finish s st x) ≡ faulty f → Completes names s (fault-place f)
   unfolding Holds andThen finish parsedBy fault-place
   whole-completes (bad g) h u e = by-fault g u (let z : g ≡ f = cc in z)
   whole-completes (ok st b) h u e = go (ltb (st .at .0) (length s)) e
@@ -83,7 +83,7 @@ module _ (names : ℕ) (some : 0 < names) (s : List ℕ) (bytes : (i : ℕ) → 
     where
       go : (c : Bool) → pick c too-long (parsedBy (andThen (formulaAt names s start) λ x st. finish s st x)) ≡ faulty f → Completes names s (fault-place f)
       go true e = absurd (let z : _≡_ {A = ℕ} 0 1 = cc in omega arith)
-      go false e = whole-completes (formulaAt names s start) (sound-formula names s bytes start refl) (formula-fails names s bytes some start) e
+      go false e = whole-completes (formulaAt names s start) (sound-formula names s bytes start refl) (formula-fails names s bytes start some) e
 
 pub faulty-none : (names : ℕ) (s : List ℕ) (f : Fault) → parseOf names s ≡ faulty f → (a : Formula) → Spelled names s a → ⊥
 faulty-none names s f e a w =

@@ -1,14 +1,15 @@
 -- What the place of a fault means. Everything before it can be completed: the bytes from the start up to it begin the spelling of a well-formed
 -- formula, limits aside (`fault-completes`). So no byte before the place is at fault; with the record there, or where none stands, the stream is refused.
--- (An assignment's targets need a name: where none is known, no assignment can be completed.)
+-- (An assignment's targets need a name: where none is known, no assignment can be completed. So a name is asked for where the first byte is 0x30 or above.)
 use Prim.Native.Nat.{ℕ, zero, suc, _+_, _*_, _/_, _%_, _≤_, _<_}
 use native.Mathlib.Omega.{arith}
 use mathlib.Core.Path.{_≡_, refl, sym, ap, _∙_}
 use mathlib.Core.Bool.{Bool, true, false}
 use mathlib.Core.List.{List, [], _∷_, _++_, append-assoc}
 use lib.ListN.{length, getD, drop}
+use lib.Seq.{getD-drop}
 use lib.Dec.{leb, ltb, eqb}
-use borrow.Author.Tests.{ltb-true, eqb-true}
+use borrow.Author.Tests.{ltb-true, ltb-false, eqb-true}
 use Rattle.types.specs.declared.Name.{Name}
 use Rattle.types.specs.declared.Place.{Place}
 use Rattle.types.specs.Ty as T
@@ -398,7 +399,7 @@ module _ (names : ℕ) (s : List ℕ) (bytes : (i : ℕ) → getD s i 0 < 256) w
         fails-then (λ t a. TypeRead names s bytes (suc d) (moved e st) a t) (TypeUp (moved e st)) (ExprUp bare st) (typeIn names s left (moved e st)) _ (sound-type names s bytes (suc d) left l (moved e st)) (type-fails left (moved e st))
         (λ q u. (explicit 0 (u .0) (literal 0), not-here bare (x .0), (u .1, refl, tt), upto-after s (step-moved s st _ e (x .1) .stand) (upto-first s (u .2) (0x03 ∷ []))))
         (λ a t r. fails-last (λ u b. ExprRead names s bytes (suc d) true t b u) (ExprUp true t) (ExprUp bare st) (X true t) (explicit (st .at .0) a) (hX true t) (fX true t)
-        (λ q u. (explicit 0 a (u .0), not-here bare (x .0), (type-below r, u .1 refl, u .2), upto-after s (step-moved s st _ e (x .1) .stand) (upto-after s (r .step .stand) (u .3)))))
+        (λ q u. (explicit 0 a (u .0), not-here bare (x .0), (type-below r, (let z = u .1 refl in cc), u .2), upto-after s (step-moved s st _ e (x .1) .stand) (upto-after s (r .step .stand) (u .3)))))
 
     pred-by-fails : (h : PredHead) → PredSays s (st .at .0) (P.Is h) → Fails (PredUp st) (predBy names s left X Q st h)
     unfolding predBy PredSays Fails ExprUp PredUp ExprsUp PredsUp DeclsUp Shape-pred spell-pred
@@ -475,8 +476,16 @@ module _ (names : ℕ) (s : List ℕ) (bytes : (i : ℕ) → getD s i 0 < 256) w
         (λ b t. expr-fails left (suc d) (let i : suc d + left ≡ levels = omega arith in i) b t) (λ t. pred-fails left (suc d) (let i : suc d + left ≡ levels = omega arith in i) t)
         st (predHead s (st .at)) (pred-says names s bytes (st .at))
 
-  -- ---- formulas, where a name is known
+  -- ---- formulas
 
+  unfoldable pub FormulaUp : St → ℕ → Type 0
+  FormulaUp st q = (a : Formula) × Shape-formula names a × UpTo s (st .at .0) q (spell-formula a)
+
+  formula-start : (st : St) → FormulaUp st (st .at .0)
+  unfolding FormulaUp Shape-formula Shape-pred
+  formula-start st = (predicate (constant 0), tt, upto-here s (st .at .0) _)
+
+  -- assignments, where a name is known
   module _ (some : 0 < names) where
     pub TargetUp : St → ℕ → Type 0
     TargetUp st q = (a : Target) × (a .name < names) × UpTo s (st .at .0) q (spell-target a)
@@ -559,13 +568,6 @@ module _ (names : ℕ) (s : List ℕ) (bytes : (i : ℕ) → getD s i 0 < 256) w
     unfolding pairsAt
     pairs-fails n st = fails-many [] _∷_ (pairIn max-depth names s) (PairRead names s bytes) PairUp PairsUp (sound-pair names s bytes) pair-fails pairs-first pairs-later n st
 
-    unfoldable pub FormulaUp : St → ℕ → Type 0
-    FormulaUp st q = (a : Formula) × Shape-formula names a × UpTo s (st .at .0) q (spell-formula a)
-
-    formula-start : (st : St) → FormulaUp st (st .at .0)
-    unfolding FormulaUp Shape-formula Shape-pred
-    formula-start st = (predicate (constant 0), tt, upto-here s (st .at .0) _)
-
     module _ (st : St) where
       becomes-by-fails : (n : ℕ) (e : Place) (k : ℕ) → Stand s (st .at .0) (k ∷ n ∷ []) (e .0) → Fails (FormulaUp st) (becomesBy max-depth names s n e st k)
       unfolding becomesBy Fails FormulaUp PairsUp TargetUp TargetsUp DeclsUp ExprUp PredUp Shape-formula spell-formula
@@ -602,22 +604,28 @@ module _ (names : ℕ) (s : List ℕ) (bytes : (i : ℕ) → getD s i 0 < 256) w
       unfolding becomesAt Fails
       becomes-at-fails k q x = on-few s bytes (Fails (FormulaUp st)) (bad (Malformed (st .at))) q _ (formula-start st) (λ n e l y. becomes-by-fails n e k (stand-join s (st .at .0) (q .0) (e .0) (k ∷ []) (n ∷ []) x y))
 
-      root-by-fails : (k : ℕ) (q : Place) → Stand s (st .at .0) (k ∷ []) (q .0) → Fails (FormulaUp st) (rootBy names s st k q)
-      unfolding rootBy FormulaUp ExprUp PredUp Shape-formula spell-formula
-      root-by-fails k q x = go (ltb k 0x20) (ltb k 0x30)
-        where
-          as-expr : Fails (FormulaUp st) (andThen (exprAt levels names s false st) λ a st₁. ok st₁ (expression a))
-          as-expr = fails-last (λ u a. ExprRead names s bytes 0 false st a u) (ExprUp false st) (FormulaUp st) (exprAt levels names s false st) expression (sound-expr names s bytes levels 0 refl false st) (expr-fails levels 0 refl false st) (λ q u. (expression (u .0), u .2, u .3))
+  stand-first : (k p e : ℕ) → Stand s p (k ∷ []) e → getD s p 0 ≡ k
+  stand-first k p e x =
+      let z : p ≡ p + 0 = omega arith in
+      ap (λ (i : ℕ). getD s i 0) z ∙ sym (getD-drop p s 0 0) ∙ ap (λ (l : List ℕ). getD l 0 0) (x .bytes)
 
-          as-pred : Fails (FormulaUp st) (andThen (predAt levels names s st) λ q st₁. ok st₁ (predicate q))
-          as-pred = fails-last (λ u a. PredRead names s bytes 0 st a u) (PredUp st) (FormulaUp st) (predAt levels names s st) predicate (sound-pred names s bytes levels 0 refl st) (pred-fails levels 0 refl st) (λ q u. (predicate (u .0), u .1, u .2))
+  module _ (st : St) where
+    root-by-fails : (k : ℕ) (q : Place) → Stand s (st .at .0) (k ∷ []) (q .0) → (0x30 ≤ k → 0 < names) → Fails (FormulaUp st) (rootBy names s st k q)
+    unfolding rootBy FormulaUp ExprUp PredUp Shape-formula spell-formula
+    root-by-fails k q x some = go (ltb k 0x20) (ltb k 0x30) refl
+      where
+        as-expr : Fails (FormulaUp st) (andThen (exprAt levels names s false st) λ a st₁. ok st₁ (expression a))
+        as-expr = fails-last (λ u a. ExprRead names s bytes 0 false st a u) (ExprUp false st) (FormulaUp st) (exprAt levels names s false st) expression (sound-expr names s bytes levels 0 refl false st) (expr-fails levels 0 refl false st) (λ q u. (expression (u .0), u .2, u .3))
 
-          go : (b c : Bool) → Fails (FormulaUp st) (pick b (andThen (exprAt levels names s false st) λ a st₁. ok st₁ (expression a)) (pick c (andThen (predAt levels names s st) λ q st₁. ok st₁ (predicate q)) (becomesAt names s st k q)))
-          go true true = as-expr
-          go true false = as-expr
-          go false true = as-pred
-          go false false = becomes-at-fails k q x
+        as-pred : Fails (FormulaUp st) (andThen (predAt levels names s st) λ q st₁. ok st₁ (predicate q))
+        as-pred = fails-last (λ u a. PredRead names s bytes 0 st a u) (PredUp st) (FormulaUp st) (predAt levels names s st) predicate (sound-pred names s bytes levels 0 refl st) (pred-fails levels 0 refl st) (λ q u. (predicate (u .0), u .1, u .2))
 
-      pub formula-fails : Fails (FormulaUp st) (formulaAt names s st)
-      unfolding formulaAt Fails
-      formula-fails = on-byte s bytes (Fails (FormulaUp st)) (bad (Malformed (st .at))) (st .at) (rootBy names s st) (formula-start st) (λ k q l x. root-by-fails k q x)
+        go : (b c : Bool) → ltb k 0x30 ≡ c → Fails (FormulaUp st) (pick b (andThen (exprAt levels names s false st) λ a st₁. ok st₁ (expression a)) (pick c (andThen (predAt levels names s st) λ q st₁. ok st₁ (predicate q)) (becomesAt names s st k q)))
+        go true true e = as-expr
+        go true false e = as-expr
+        go false true e = as-pred
+        go false false e = becomes-at-fails (some (ltb-false k 0x30 e)) st k q x
+
+    pub formula-fails : (0x30 ≤ getD s (st .at .0) 0 → 0 < names) → Fails (FormulaUp st) (formulaAt names s st)
+    unfolding formulaAt Fails
+    formula-fails some = on-byte s bytes (Fails (FormulaUp st)) (bad (Malformed (st .at))) (st .at) (rootBy names s st) (formula-start st) (λ k q l x. root-by-fails k q x (λ h. some (rw (stand-first k (st .at .0) (q .0) x) h)))

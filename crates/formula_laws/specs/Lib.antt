@@ -8,6 +8,7 @@ pub mod ExactEnvironment
 pub mod Numbers
 pub mod Cases
 pub mod Shape
+pub mod Limited
 pub mod Faults
 pub mod FaultPlace
 pub mod EnvironmentFault

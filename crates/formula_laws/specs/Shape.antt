@@ -105,7 +105,7 @@ mutual
   fits-shape (unary p op a) names d o f = (f .1, fits-shape a names (suc d) o (f .2))
   fits-shape (quantified p op ds q a) names d o f = (f .1, f .2, fits-decls names (suc d) ds (f .4), fits-pred q names (suc d) (o + decls ds) (f .5), fits-shape a names (suc d) (o + decls ds) (f .6))
   fits-shape (ascribed p a q x) names d o f = (fits-shape a names (suc d) o (f .1), fits-spelling names (suc d) x (f .2))
-  fits-shape (explicit p t a) names d o f = (f .1 .1, f .2, fits-shape a names (suc d) o (f .3))
+  fits-shape (explicit p t a) names d o f = (f .1 .1, (let h = f .2 in cc), fits-shape a names (suc d) o (f .3))
 
   pub fits-all : (es : Exprs) (names d o : ℕ) → Fits-all names d o es → Shape-all names es
   fits-all none names d o f = tt
