@@ -5,15 +5,16 @@ use native.Mathlib.Decide.{decLe}
 use mathlib.Core.Path.{_≡_, sym, ap, _∙_}
 use mathlib.Core.List.{List}
 use lib.ListN.{length, getD, drop-of-length-le}
-use borrow.Author.Tests.{le-leb, lt-leb, lt-ltb, le-ltb}
+use borrow.Author.Tests.{le-leb, lt-leb, lt-ltb, le-ltb, ne-eqb}
 use lib.Seq.{drop-cons, take-all, length-take-le, getD-take}
 use Rattle.types.specs.declared.Place.{Place}
 use Rattle.heads.specs.declared.Byte.{Byte}
 use Rattle.heads.specs.declared.Byte.the-variants as B
 use Rattle.heads.specs.declared.Word.{Word}
 use Rattle.heads.specs.declared.Word.the-variants as W
+use Rattle.heads.specs.declared.RootAt.the-variants as R
 use Rattle.types.specs.Record.{reach}
-use Rattle.heads.specs.Heads.{place, byteOf, byteAt, onByte, onWord, wordAt, nameAt, opAt, countAt, fewAt}
+use Rattle.heads.specs.Heads.{place, byteOf, byteAt, onByte, onWord, wordAt, nameAt, opAt, countAt, fewAt, assignmentAt, rootHead}
 
 -- a stream within reach is its own reach
 pub reach-all : (s : List ℕ) → length s ≤ 4294967295 → reach s ≡ s
@@ -63,6 +64,37 @@ module _ (s : List ℕ) (p : Place) (n : ℕ) (e : Place) where
   pub name-past : (names : ℕ) → wordAt s p ≡ W.Of n e → names ≤ n → W.Missing ≡ nameAt names s p
   unfolding nameAt onWord
   name-past names h l = rw (h, le-ltb n names l)
+
+-- what a formula begins with, by its first byte and its count
+module _ (s : List ℕ) (p : Place) (k : ℕ) (q : Place) (h : byteAt s p ≡ B.Of k q) where
+  pub root-expression : k < 0x20 → R.Expression ≡ rootHead s p
+  unfolding rootHead onByte
+  root-expression l = rw (h, lt-ltb k 0x20 l)
+
+  pub root-predicate : 0x20 ≤ k → k < 0x30 → R.Predicate ≡ rootHead s p
+  unfolding rootHead onByte
+  root-predicate g l = rw (h, le-ltb k 0x20 g, lt-ltb k 0x30 l)
+
+  pub root-assignment : 0x30 ≤ k → assignmentAt s k q ≡ rootHead s p
+  unfolding rootHead onByte
+  root-assignment g = rw (h, le-ltb k 0x20 (omega arith), le-ltb k 0x30 g)
+
+module _ (s : List ℕ) (k : ℕ) (p : Place) (n : ℕ) (e : Place) (h : fewAt s p ≡ B.Of n e) where
+  pub assignment-becomes : k ≡ 0x30 → R.Becomes n e ≡ assignmentAt s k p
+  unfolding assignmentAt onByte
+  assignment-becomes i = rw (h, i)
+
+  pub assignment-in : k ≡ 0x31 → R.BecomesIn n e ≡ assignmentAt s k p
+  unfolding assignmentAt onByte
+  assignment-in i = rw (h, i)
+
+  pub assignment-such : k ≡ 0x32 → R.BecomesSuch n e ≡ assignmentAt s k p
+  unfolding assignmentAt onByte
+  assignment-such i = rw (h, i)
+
+  pub assignment-wrong : (k ≡ 0x30 → ⊥) → (k ≡ 0x31 → ⊥) → (k ≡ 0x32 → ⊥) → R.Wrong ≡ assignmentAt s k p
+  unfolding assignmentAt onByte
+  assignment-wrong x y z = rw (h, ne-eqb k 0x30 x, ne-eqb k 0x31 y, ne-eqb k 0x32 z)
 
 -- the code's limit is the definition's
 pub op-as : (limit m : ℕ) (s : List ℕ) (p : Place) (x : Byte) → opAt m s p ≡ x → m ≡ limit → opAt limit s p ≡ x
