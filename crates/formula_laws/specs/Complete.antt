@@ -29,7 +29,6 @@ use Rattle.heads.specs.declared.PredAt.{PredAt}
 use Rattle.heads.specs.declared.PredAt.the-variants as P
 use Rattle.heads.specs.declared.DeclAt.{DeclAt}
 use Rattle.heads.specs.declared.DeclAt.the-variants as D
-use Rattle.heads.specs.declared.RootAt.{RootAt}
 use Rattle.heads.specs.declared.RootAt.the-variants as R
 use Rattle.formula.specs.declared.St.{St}
 use Rattle.formula.specs.declared.Out.{Out}

@@ -9,7 +9,7 @@ use lib.Dec.{eqb}
 use borrow.Author.Tests.{ne-eqb}
 use types.Run.{OneOf, miss}
 use denote.Enum.Declared.{tagOf}
-use Rattle.types.specs.Limits.{levels, max-names}
+use Rattle.types.specs.Limits.{max-names}
 use Rattle.types.specs.declared.NodeRef.{NodeRef}
 use Rattle.types.specs.declared.Place.{Place}
 use Rattle.heads.proofs.ExprHead.{the-type}
