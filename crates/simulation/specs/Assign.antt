@@ -1,5 +1,5 @@
--- Assignments: targets, values, products, and declarations that share their targets' types.
--- After this file the rules of 30, 31 and 32 are known from those of expressions and predicates.
+-- Assignments: targets each with a value, and the product of targets against a set.
+-- After this file the rules of 30 and 31 run the walk's pieces; that of 32 stands in `Shares`.
 use Prim.Native.Nat.{ℕ, suc, _+_, _-_, _≤_, _<_}
 use mathlib.Core.Path.{_≡_, refl, sym, _∙_, ap, ap₂, subst}
 use mathlib.Core.List.{List, [], _∷_, _++_}

@@ -1,5 +1,5 @@
 -- Pieces one after the other: where the machine runs the first and then the second, it runs both.
--- After this file `runs-bind` serves every sequence of the walk, and `runs-eq` every piece that is another by its definition.
+-- After this file `runs-bind` serves every sequence of the walk; `sound-split` and `slots-join` serve where operations or slots alone follow each other.
 use Prim.Native.Nat.{ℕ, suc, _+_, _*_, _≤_, _<_}
 use mathlib.Core.Path.{_≡_, sym, _∙_, ap, subst}
 use mathlib.Core.List.{List, [], _∷_, _++_}

@@ -1,5 +1,5 @@
 -- Scripts: playing a script of the machine's table runs the walk's script, for every operator at once.
--- After this file `runs-play` serves every operator; that the two tables agree is computed.
+-- After this file `runs-script` serves every operator; that the two tables agree is computed.
 use Prim.Native.Nat.{ℕ, zero, suc, _+_, _-_, _≤_, _<_}
 use mathlib.Core.Path.{_≡_, refl, sym, _∙_, ap, ap₂, subst}
 use mathlib.Core.Bool.{Bool, true, _&&_}

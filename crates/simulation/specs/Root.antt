@@ -1,36 +1,33 @@
 -- The walk of a whole formula, root and all; `Whole` starts it from a fresh machine.
--- From a machine with nothing in its arena, its books empty but for the entries of the environment, and no output: where the bytes spell a formula
--- that fits, the machine ends as the formula's operations end. Where they end at all it holds their bench, the names that they met and their slots; it
--- stops with 7 where they are spent, with 6 where the arena is full, and never otherwise.
+-- After this file `tie-formula` says of every formula that fits: where the bytes spell it, the walk from any machine that stands there runs its operations
+-- and ends behind it.
 use Prim.Native.Nat.{ℕ, suc, _+_, _≤_, _<_}
 use mathlib.Core.Path.{_≡_, refl, sym, _∙_, ap, ap₂, subst}
 use mathlib.Core.List.{List, [], _∷_, _++_}
 use native.Mathlib.Omega.{arith}
 use lib.ListN.{length, drop}
-use lib.Dec.{ltb}
-use borrow.Author.Tests.{lt-ltb, le-ltb}
 use Rattle.types.specs.Limits.{levels, max-depth}
-use Rattle.heads.specs.declared.Byte.{Byte}
-use Rattle.heads.specs.declared.Byte.the-variants.{Of}
-use Rattle.heads.specs.Heads.{byteAt, fewAt}
+use Rattle.heads.specs.declared.RootAt.{RootAt}
+use Rattle.heads.specs.declared.RootAt.the-variants.{Expression, Predicate, Becomes, BecomesIn, BecomesSuch}
+use Rattle.heads.specs.Heads.{rootHead}
 use Rattle.heads.specs.Heads as H
 use Rattle.heads.specs.Reads.{reach-all}
 use Rattle.formula.specs.Environment.{Env}
 use Rattle.formula.specs.Tree.{Formula, expression, predicate, becomes, becomes-in, becomes-such, targets, pairs, place}
 use Rattle.formula.specs.Spell.{spell-decls, spell, spell-pred, spell-target, spell-targets, spell-pairs, spell-formula, size, size-pred, size-decls, size-targets, size-pairs, size-formula, Placed, Placed-targets, Placed-formula}
 use Rattle.formula_laws.specs.Fits.{Fits-root}
-use Rattle.formula_laws.specs.Complete.{byte-here, after-one, few-here, expr-first, pred-first}
+use Rattle.formula_laws.specs.Complete.{head-expression, head-predicate, head-becomes, head-becomes-in, head-becomes-such, expr-first, pred-first}
 use Rattle.unification.specs.Arena.{U}
 use Rattle.unification.specs.Ops.{Op}
 use Rattle.walk.specs.Writer.{Row, W, done, glue, _>>=_, enter}
 use Rattle.walk.specs.Walk.{over, walk, walk-pred, forget, walk-formula}
 use Rattle.walk.specs.Walk as K
-use Rattle.forms.specs.Forms.{test, then}
+use Rattle.forms.specs.Forms.{then}
 use Rattle.machine.specs.Machine.{Mach, withSt, placedOf, boundOf, paidOf}
 use Rattle.walker.specs.Walk.{exprOf, predOf}
-use Rattle.walker.specs.Root.{pairBy, pairsOf, becomesInOf, becomesSuchOf, assignedBy, assignmentBy, rootBy, formulaOf}
+use Rattle.walker.specs.Root.{pairBy, pairsOf, becomesInOf, becomesSuchOf, rootBy, formulaOf}
 use Rattle.simulation.specs.Relation.{Runs}
-use Rattle.simulation.specs.Stand.{test-yes, test-no, runs-if, runs-map}
+use Rattle.simulation.specs.Stand.{runs-if, runs-map}
 use Rattle.simulation.specs.Still.{Halted, still-placed, still-times, still-bound, still-within}
 use Rattle.simulation.specs.Steps.{told, nil-right, runs-same, runs-told}
 use Rattle.simulation.specs.Output.{assoc}
@@ -43,34 +40,37 @@ use Rattle.simulation.specs.Cycle.{tie, tie-pred}
 use Rattle.simulation.specs.Assign.{still-pair, runs-pairs, still-becomes-in, runs-becomes-in}
 use Rattle.simulation.specs.Shares.{still-becomes-such, runs-becomes-such}
 
--- ---- the first byte says what kind of formula it is
+-- ---- the head says what kind of formula it is
 abbrev Paid : Mach → Mach
 Paid m = withSt (paidOf (m .st)) m
 
 module _ (s env : List ℕ) (short : length s ≤ 65536) (m : Mach) (p : ℕ) (at0 : m .st .at .0 ≡ p) where
-  root-is : (k : ℕ) (rest : List ℕ) → drop p s ≡ k ∷ rest → formulaOf s env m ≡ rootBy s env (Of k (H.place (p + 1))) m
+  root-is : (h : RootAt) → rootHead s (H.place p) ≡ h → formulaOf s env m ≡ rootBy s env h m
   unfolding formulaOf then
-  root-is k rest e =
-      ap (λ (x : List ℕ). rootBy s env (byteAt x (m .st .at)) m) (reach-all s (omega arith))
-      ∙ ap (λ (j : ℕ). rootBy s env (byteAt s (H.place j)) m) at0
-      ∙ ap (λ (b : Byte). rootBy s env b m) (byte-here s p k rest e)
+  root-is h e =
+      ap (λ (x : List ℕ). rootBy s env (rootHead x (m .st .at)) m) (reach-all s (omega arith))
+      ∙ ap (λ (j : ℕ). rootBy s env (rootHead s (H.place j)) m) at0
+      ∙ ap (λ (g : RootAt). rootBy s env g m) e
 
   formula-expr : (k : ℕ) (rest : List ℕ) → k < 0x20 → drop p s ≡ k ∷ rest → formulaOf s env m ≡ exprOf levels s env m
   unfolding rootBy
-  formula-expr k rest l e = root-is k rest e ∙ test-yes (ltb k 0x20) _ _ (lt-ltb k 0x20 l)
+  formula-expr k rest l e = root-is Expression (head-expression s p k rest l e)
 
   formula-pred : (k : ℕ) (rest : List ℕ) → 0x20 ≤ k → k < 0x30 → drop p s ≡ k ∷ rest → formulaOf s env m ≡ predOf levels s env m
   unfolding rootBy
-  formula-pred k rest h l e = root-is k rest e ∙ test-no (ltb k 0x20) _ _ (le-ltb k 0x20 h) ∙ test-yes (ltb k 0x30) _ _ (lt-ltb k 0x30 l)
+  formula-pred k rest h l e = root-is Predicate (head-predicate s p k rest h l e)
 
-  formula-assigned : (k n : ℕ) (rest : List ℕ) → 0x30 ≤ k → 1 ≤ n → drop p s ≡ k ∷ n ∷ rest → formulaOf s env m ≡ assignedBy s env k n p (stood (p + 2) (Paid m))
-  unfolding rootBy assignmentBy then
-  formula-assigned k n rest l i e =
-      let z : p + 1 + 1 ≡ p + 2 = omega arith in
-      root-is k (n ∷ rest) e ∙ test-no (ltb k 0x20) _ _ (le-ltb k 0x20 (omega arith)) ∙ test-no (ltb k 0x30) _ _ (le-ltb k 0x30 l)
-      ∙ ap (λ (x : List ℕ). assignmentBy s env k (fewAt x (H.place (p + 1))) m) (reach-all s (omega arith))
-      ∙ ap (λ (b : Byte). assignmentBy s env k b m) (few-here s (p + 1) n rest i (after-one s p k (n ∷ rest) e))
-      ∙ ap₂ (λ (q j : ℕ). assignedBy s env k n j (stood q (Paid m))) z at0
+  formula-becomes : (n : ℕ) (rest : List ℕ) → 1 ≤ n → drop p s ≡ 0x30 ∷ n ∷ rest → formulaOf s env m ≡ pairsOf s env n (stood (p + 2) (Paid m))
+  unfolding rootBy then
+  formula-becomes n rest i e = root-is (Becomes n (H.place (p + 2))) (head-becomes s p n rest i e)
+
+  formula-becomes-in : (n : ℕ) (rest : List ℕ) → 1 ≤ n → drop p s ≡ 0x31 ∷ n ∷ rest → formulaOf s env m ≡ becomesInOf s env n (stood (p + 2) (Paid m))
+  unfolding rootBy then
+  formula-becomes-in n rest i e = root-is (BecomesIn n (H.place (p + 2))) (head-becomes-in s p n rest i e)
+
+  formula-becomes-such : (n : ℕ) (rest : List ℕ) → 1 ≤ n → drop p s ≡ 0x32 ∷ n ∷ rest → formulaOf s env m ≡ becomesSuchOf s env n p (stood (p + 2) (Paid m))
+  unfolding rootBy then
+  formula-becomes-such n rest i e = root-is (BecomesSuch n (H.place (p + 2))) (head-becomes-such s p n rest i e) ∙ ap (λ (j : ℕ). becomesSuchOf s env n j (stood (p + 2) (Paid m))) at0
 
 abbrev gone : ℕ → U
 gone _ = tt
@@ -95,13 +95,13 @@ module _ (Γ : Env) (env : List ℕ) (cap room : ℕ) (wide : cap ≤ 32768) (br
   still-shut y h = still-within (boundOf 0) y (still-bound 0 (y .st) h)
 
   -- an assignment's record: its unit, and two bytes
-  as-assignment : (k n p N : ℕ) (rest : List ℕ) (w : W U) (G : Mach → Mach) → 0x30 ≤ k → 1 ≤ n → drop p s ≡ k ∷ n ∷ rest → ((y : Mach) → assignedBy s env k n p y ≡ G y) → ((y : Mach) → Halted y → G y ≡ y)
+  as-assignment : (p N : ℕ) (w : W U) (G : Mach → Mach) → ((m : Mach) → m .st .at .0 ≡ p → formulaOf s env m ≡ G (stood (p + 2) (Paid m))) → ((y : Mach) → Halted y → G y ≡ y)
       → ((m : Mach) → m .st .at .0 ≡ p + 2 → Runs Γ env cap room m (Shut (G m)) w [] (λ _. []) (At N))
       → (m : Mach) → m .st .at .0 ≡ p → Runs Γ env cap room m (Shut (formulaOf s env m)) (enter w) [] (λ _. []) (At N)
-  as-assignment k n p N rest w G l i e is still body m at0 =
+  as-assignment p N w G is still body m at0 =
       let m0 : Mach = Paid m in
       let F : Mach = Shut (G (stood (p + 2) m0)) in
-      runs-if Γ env cap room m (Shut (formulaOf s env m)) F (enter w) [] (λ _. []) (At N) (λ _. ap Shut (formula-assigned s env short m p at0 k n rest l i e ∙ is (stood (p + 2) m0)))
+      runs-if Γ env cap room m (Shut (formulaOf s env m)) F (enter w) [] (λ _. []) (At N) (λ _. ap Shut (is m at0))
       (runs-enter Γ env cap room m F w [] (λ _. []) (At N)
       (λ h. ap (λ (x : Mach). x .st .stop) (ap (λ (x : Mach). Shut (G x)) (still-within (placedOf (p + 2)) m0 (still-placed (p + 2) (m0 .st) h)) ∙ ap Shut (still m0 h) ∙ still-shut m0 h))
       (on-from Γ env cap room (p + 2) p (λ _ y. Shut (G y)) m0 F w [] (λ _. []) (At N) (paid-at (m .st) ∙ at0) refl (λ g a. body (stood (p + 2) m0) a)))
@@ -113,7 +113,7 @@ module _ (Γ : Env) (env : List ℕ) (cap room : ℕ) (wide : cap ≤ 32768) (br
   at-formula mk r p e h = subst (λ (q : ℕ). GF (mk q) p) (sym e) h
 
   pub tie-formula : (f : Formula) (p : ℕ) (rest : List ℕ) → Fits-root most f → Placed-formula p f → drop p s ≡ spell-formula f ++ rest → GF f p
-  unfolding walk-formula spell-formula size-formula Fits-root Placed-formula assignedBy test
+  unfolding walk-formula spell-formula size-formula Fits-root Placed-formula
   tie-formula (expression e) p rest f w b = λ m at0. (
       let g = expr-first e in
       let F : Mach = exprOf levels s env m in
@@ -130,7 +130,7 @@ module _ (Γ : Env) (env : List ℕ) (cap room : ℕ) (wide : cap ≤ 32768) (br
       let b2 : drop (p + 2) s ≡ spell-pairs xs ++ rest = drop-past s (0x30 ∷ pairs xs ∷ []) (spell-pairs xs ++ rest) p b in
       let G : Mach → Mach = (λ (y : Mach). pairsOf s env (pairs xs) y) in
       at-formula (λ q. becomes q xs) r p (w .0) (
-      as-assignment 0x30 (pairs xs) p (p + (2 + size-pairs xs)) (spell-pairs xs ++ rest) (K.pairs Γ xs) G (omega arith) (f .0) b (λ y. refl)
+      as-assignment p (p + (2 + size-pairs xs)) (K.pairs Γ xs) G (λ y a. formula-becomes s env short y p a (pairs xs) (spell-pairs xs ++ rest) (f .0) b)
       (λ y h. still-times (pairBy (exprOf max-depth s env)) y (still-pair Γ env cap room wide brief s short most few y h) (pairs xs))
       (λ y a. shut y (G y) (K.pairs Γ xs) (At (p + (2 + size-pairs xs))) (λ _ z. z)
       (runs-map Γ env cap room y (G y) (K.pairs Γ xs) [] (λ _. []) _ _ (λ _ z. z ∙ omega arith) (runs-pairs Γ env cap room wide brief s short most few xs (p + 2) rest (f .1) (w .1) b2 y a))))
@@ -143,7 +143,7 @@ module _ (Γ : Env) (env : List ℕ) (cap room : ℕ) (wide : cap ≤ 32768) (br
       let N : ℕ = p + (2 + (3 + (size-targets ts + size e))) in
       let z3 : p + 5 ≡ p + 2 + 3 = omega arith in
       at-formula (λ q. becomes-in q t ts e) r p (w .0) (
-      as-assignment 0x31 n p N tail _ G (omega arith) (omega arith) b0 (λ y. refl) (λ y h. still-becomes-in Γ env cap room wide brief s short most few n y h)
+      as-assignment p N _ G (λ y a. formula-becomes-in s env short y p a n tail (omega arith) b0) (λ y h. still-becomes-in Γ env cap room wide brief s short most few n y h)
       (λ y a. shut y (G y) _ (At N) (λ _ z. z)
       (runs-map Γ env cap room y (G y) _ [] (λ _. []) _ _ (λ _ z. z ∙ omega arith)
       (runs-becomes-in Γ env cap room wide brief s short most few t ts e (p + 2) n rest refl (f .0) (f .1) (f .2) (w .1) (subst (λ (k : ℕ). Placed-targets k ts) z3 (w .2)) (subst (λ (k : ℕ). Placed (k + size-targets ts) e) z3 (w .3)) b2 y a))))
@@ -155,6 +155,6 @@ module _ (Γ : Env) (env : List ℕ) (cap room : ℕ) (wide : cap ≤ 32768) (br
       let G : Mach → Mach = (λ (y : Mach). becomesSuchOf s env n p y) in
       let N : ℕ = p + (2 + (size-targets ts + (size-decls ds + size-pred c))) in
       at-formula (λ q. becomes-such q ts ds c) r p (w .0) (
-      as-assignment 0x32 n p N tail _ G (omega arith) (f .0) b0 (λ y. refl) (λ y h. still-becomes-such Γ env cap room wide brief s short most few n p y h)
+      as-assignment p N _ G (λ y a. formula-becomes-such s env short y p a n tail (f .0) b0) (λ y h. still-becomes-such Γ env cap room wide brief s short most few n p y h)
       (λ y a. runs-map Γ env cap room y (Shut (G y)) _ [] (λ _. []) _ _ (λ _ z. z ∙ omega arith)
       (runs-becomes-such Γ env cap room wide brief s short most few ts ds c (p + 2) n p rest refl (f .1) (f .2) (f .3) (f .4) (f .5) (w .1) (w .2) (w .3) b2 y a)))

@@ -1,5 +1,5 @@
--- The shapes of the walk's rules: one expression and a script, two and a script, rows of expressions by a plan.
--- Each is shown for any walk of an expression one level below; after this file only the kinds remain.
+-- The shapes of the walk's rules: one expression and a script, two and a script. Rows of expressions stand in `Children` and `Gathers`.
+-- Each is shown for any walk of an expression one level below.
 use Prim.Native.Nat.{ℕ, _+_, _≤_}
 use mathlib.Core.Path.{_≡_, refl, sym, _∙_, ap, ap₂, subst}
 use mathlib.Core.Bool.{true}

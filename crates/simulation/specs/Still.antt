@@ -4,7 +4,7 @@ use Prim.Native.Nat.{ℕ, zero, suc, _+_, _-_, _/_, _%_}
 use mathlib.Core.Path.{_≡_, refl, _∙_, ap}
 use mathlib.Core.Bool.{Bool, true, false}
 use mathlib.Core.List.{List}
-use lib.Dec.{eqb, ltb, leb}
+use lib.Dec.{eqb, ltb}
 use borrow.Author.Tests.{ne-eqb}
 use Rattle.heads.specs.declared.Byte.{Byte}
 use Rattle.heads.specs.declared.Byte.the-variants.{Missing, Of}
@@ -18,7 +18,7 @@ use Rattle.machine.specs.declared.State.{State}
 use Rattle.operators.specs.declared.Item.{Item}
 use Rattle.machine.specs.declared.Parts.{Parts}
 use Rattle.forms.specs.Forms.{test, then}
-use Rattle.machine.specs.Machine.{Mach, withSt, stoppedOf, placedOf, passedOf, gaveOf, boundOf, paidOf, enterOf, emitOf, twoOf, fourOf, listOf, makeOf, expectOf, leaveOf, rememberOf, enrolOf, pushBoundOf}
+use Rattle.machine.specs.Machine.{Mach, withSt, stoppedOf, placedOf, gaveOf, boundOf, paidOf, enterOf, emitOf, twoOf, fourOf, listOf, makeOf, expectOf, leaveOf, rememberOf, enrolOf, pushBoundOf}
 use Rattle.machine.specs.Types.{skipOf, liftOf, freeOf, boundIdentifierOf, notesOf, meetsOf, spelledOf, ascriptionBy, ascriptionOf, annotationBy, claimOf, declarationBy, declarationOf, timesOf, declareOf}
 use Rattle.operators.specs.Operators.{scriptAt, itemAt}
 use Rattle.machine.specs.Scripts.{chosenOf, itemOf, itemsOf, playOf}

@@ -1,6 +1,6 @@
 -- `typeAt` accepts exactly the spellings of types: a spelling of few enough levels and of names below the count is read to its type,
 -- and what is read is spelled there. A spelling has one type, and no spelling begins another (`spell-one`).
--- A fault's place is the first record, in stream order, that is malformed or too deep: everything before it belongs to a type (`Way`).
+-- What a fault's place means stands in `Faults`.
 use Prim.Native.Nat.{ℕ, zero, suc, _+_, _*_, _/_, _%_, _≤_, _<_, max}
 use native.Mathlib.Omega.{arith}
 use mathlib.Core.Path.{_≡_, refl, sym, ap, _∙_}

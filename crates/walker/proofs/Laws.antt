@@ -5,16 +5,14 @@ use mathlib.Core.Bool.{false}
 use mathlib.Core.List.{List, [], _∷_}
 use native.Mathlib.Numerals.{sub-one}
 use native.Mathlib.Omega.{arith}
-use lib.Dec.{eqb, ltb}
+use lib.Dec.{eqb}
 use borrow.Author.Tests.{ne-eqb}
 use types.Run.{OneOf, miss}
 use denote.Enum.Declared.{tagOf}
-use Rattle.types.specs.Limits.{levels, max-names}
+use Rattle.types.specs.Limits.{max-names}
 use Rattle.types.specs.declared.NodeRef.{NodeRef}
 use Rattle.types.specs.declared.Place.{Place}
 use Rattle.heads.proofs.ExprHead.{the-type}
-use Rattle.heads.specs.declared.Byte.{Byte}
-use Rattle.heads.specs.declared.Byte.the-variants.{Missing, Of}
 use Rattle.heads.specs.declared.ExprHead.{ExprHead}
 use Rattle.heads.specs.declared.ExprHead.the-variants.{Free, Bound, Literal, Atomic, Extension, Truth, Binary, Associative, Unary, Quantified, Ascribed, Explicit}
 use Rattle.heads.specs.declared.PredHead.{PredHead}
@@ -23,13 +21,13 @@ use Rattle.heads.specs.declared.ExprAt.the-variants as EA
 use Rattle.heads.specs.declared.PredAt.{PredAt}
 use Rattle.heads.specs.declared.PredAt.the-variants as PA
 use Rattle.types.specs.Record.{reach}
-use Rattle.heads.specs.Heads.{exprHead, predHead, fewAt}
+use Rattle.heads.specs.Heads.{exprHead, predHead}
 use Rattle.operators.specs.declared.Plan.{Plan}
 use Rattle.forms.specs.Forms.{test, then}
-use Rattle.machine.specs.Machine.{Mach, withSt, placedOf, gaveOf, paidOf, leaveOf}
+use Rattle.machine.specs.Machine.{Mach, withSt, gaveOf, leaveOf}
 use Rattle.machine.specs.Types.{timesOf}
 use Rattle.walker.specs.Walk.{halts, exprBy, predBy, paidBy, ownedBy, typedBy, bodyBy, predBodyBy, exprOf, predOf, explicitOf, ownedOf, childBy, childrenBy, nextOf}
-use Rattle.walker.specs.Root.{shareBy, sharesFrom, assignedBy, assignmentBy, rootBy}
+use Rattle.walker.specs.Root.{shareBy, sharesFrom}
 
 pub by-expr : (l : ℕ) (s env : List ℕ) (m x : Mach)
     → x ≡ then (exprHead max-names (reach s) false (m .st .at)) (λ h. exprBy (λ e. explicitOf l s env e m) (λ g. ownedOf l s env g m) h m)
@@ -98,27 +96,6 @@ by-body E P s env h g m x e q = q ∙ ap (λ (u : ExprHead). bodyBy E P s env u 
 
 pub by-pred-body : (E P : Mach → Mach) (s env : List ℕ) (h g : PredHead) (m x : Mach) → h ≡ g → x ≡ predBodyBy E P s env g m → x ≡ predBodyBy E P s env h m
 by-pred-body E P s env h g m x e q = q ∙ ap (λ (u : PredHead). predBodyBy E P s env u m) (sym e)
-
--- ---- a match on the root's byte, and on an assignment's count
-pub root-none : (s env : List ℕ) (b : Byte) (m x : Mach) → b ≡ Missing → x ≡ halts m → x ≡ rootBy s env b m
-unfolding rootBy
-root-none s env b m x e q = rw e q
-
-pub root-is : (s env : List ℕ) (b : Byte) (k : ℕ) (p : Place) (m x : Mach) → b ≡ Of k p
-    → x ≡ test (ltb k 0x20) (λ _. exprOf levels s env m) (λ _. test (ltb k 0x30) (λ _. predOf levels s env m) (λ _. then (fewAt (reach s) p) λ n. assignmentBy s env k n m))
-    → x ≡ rootBy s env b m
-unfolding rootBy
-root-is s env b k p m x e q = rw e q
-
-pub assignment-none : (s env : List ℕ) (k : ℕ) (b : Byte) (m x : Mach) → b ≡ Missing → x ≡ halts m → x ≡ assignmentBy s env k b m
-unfolding assignmentBy
-assignment-none s env k b m x e q = rw e q
-
-pub assignment-is : (s env : List ℕ) (k : ℕ) (b : Byte) (n : ℕ) (p : Place) (m x : Mach) → b ≡ Of n p
-    → x ≡ then (paidOf (m .st)) (λ v. then (placedOf (p .0) v) λ w. assignedBy s env k n (m .st .at .0) (withSt w m))
-    → x ≡ assignmentBy s env k b m
-unfolding assignmentBy
-assignment-is s env k b n p m x e q = rw e q
 
 -- ---- a step taken n times
 pub times-none : (f : Mach → Mach) (n : ℕ) (m : Mach) → n ≡ 0 → timesOf f n m ≡ m

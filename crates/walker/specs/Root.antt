@@ -7,7 +7,7 @@ use Rattle.heads.specs.declared.RootAt.{RootAt}
 use Rattle.heads.specs.declared.RootAt.the-variants.{Wrong, Expression, Predicate, Becomes, BecomesIn, BecomesSuch}
 use Rattle.types.specs.Record.{reach}
 use Rattle.heads.specs.Heads.{rootHead}
-use Rattle.forms.specs.Forms.{test, then}
+use Rattle.forms.specs.Forms.{then}
 use Rattle.machine.specs.Machine.{Mach, withSt, cell, wordOf, placedOf, paidOf, makeOf, expectOf}
 use Rattle.machine.specs.Types.{declareOf, timesOf}
 use Rattle.walker.specs.Walk.{halts, exprOf, predOf}
