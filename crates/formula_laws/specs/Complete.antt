@@ -29,6 +29,7 @@ use Rattle.heads.specs.declared.PredAt.{PredAt}
 use Rattle.heads.specs.declared.PredAt.the-variants as P
 use Rattle.heads.specs.declared.DeclAt.{DeclAt}
 use Rattle.heads.specs.declared.DeclAt.the-variants as D
+use Rattle.heads.specs.declared.RootAt.{RootAt}
 use Rattle.heads.specs.declared.RootAt.the-variants as R
 use Rattle.formula.specs.declared.St.{St}
 use Rattle.formula.specs.declared.Out.{Out}
@@ -36,6 +37,7 @@ use Rattle.formula.specs.declared.Out.the-variants.{Next, Stop}
 use Rattle.formula.specs.Tree.{Spelling, spells, no-type, Decl, plain, typed, annotated, Expr, free, bound, literal, atomic, extension, truth, binary, associative, unary, quantified, ascribed, explicit, Exprs, none, more, Pred, constant, variable, relational, connective, junction, negation, quantification, simple, multiple, application, Preds, end, also, Target, Formula, expression, predicate, becomes, becomes-in, becomes-such, decls, exprs, preds, targets, pairs, slots, slots-all, slots-pred, slots-preds, slots-pairs, slots-of}
 use Rattle.formula.specs.Spell.{spell-spelling, spell-decl, spell-decls, spell, spell-all, spell-pred, spell-preds, spell-target, spell-targets, spell-pairs, spell-formula, size-ty, size-spelling, size-decl, size-decls, size, size-all, size-pred, size-preds, size-targets, size-pairs, size-formula, Placed-decl, Placed-decls, Placed, Placed-all, Placed-pred, Placed-preds, Placed-targets, Placed-pairs, Placed-formula}
 use Rattle.heads.specs.Heads.{pick, place, name, byteOf, byteAt, onByte, onWord, wordAt, nameAt, opAt, countAt, fewAt, exprBody, exprHead, predBody, predHead, declBody, declHead, targetAt, assignmentAt, rootHead}
+use Rattle.heads.specs.Reads.{root-expression, root-predicate, root-assignment, assignment-becomes, assignment-in, assignment-such}
 use Rattle.formula.specs.Reader.{Got, ok, bad, andThen, onNext, many, moved, ownOf, declareOf, closed, closing, typeGot, typeIn, noType, spelledIn, spellingIn}
 use Rattle.formula.specs.Parse.{declBy, declIf, declAt, declsAt, exprBy, predBy, exprIf, predIf, exprDeep, predDeep, exprAt, predAt, exprsAt, predsAt, targetBy, targetIn, pairIn, targetsAt, pairsAt, becomesBy, becomesAt, rootBy, start, formulaAt, finish, whole}
 use Rattle.types.specs.Limits.{max-depth, max-slots, max-opened, levels}
@@ -220,32 +222,25 @@ module _ (s : List ℕ) (p : ℕ) where
   head-target names n r l h = rw (byte-here s p 0x01 _ h, name-here s (p + 1) names n r l (after-one s p _ _ h), more-by 1 2 3 refl)
 
   pub head-expression : (k : ℕ) (r : List ℕ) → k < 0x20 → drop p s ≡ k ∷ r → rootHead s (place p) ≡ R.Expression
-  unfolding rootHead onByte
-  head-expression k r l h = rw (byte-here s p k r h, lt-ltb k 0x20 l)
+  head-expression k r l h = sym (root-expression s (place p) k (place (p + 1)) (byte-here s p k r h) l)
 
   pub head-predicate : (k : ℕ) (r : List ℕ) → 0x20 ≤ k → k < 0x30 → drop p s ≡ k ∷ r → rootHead s (place p) ≡ R.Predicate
-  unfolding rootHead onByte
-  head-predicate k r m l h = rw (byte-here s p k r h, le-ltb k 0x20 m, lt-ltb k 0x30 l)
+  head-predicate k r m l h = sym (root-predicate s (place p) k (place (p + 1)) (byte-here s p k r h) m l)
 
-  module _ (k n : ℕ) (r : List ℕ) (l : 0x30 ≤ k) (i : 1 ≤ n) (h : drop p s ≡ k ∷ n ∷ r) where
-    assigns : rootHead s (place p) ≡ assignmentAt s k (place (p + 1))
-    unfolding rootHead onByte
-    assigns = rw (byte-here s p k (n ∷ r) h, le-ltb k 0x20 (omega arith), le-ltb k 0x30 l)
-
-    counted : fewAt s (place (p + 1)) ≡ B.Of n (place (p + 1 + 1))
-    counted = few-here s (p + 1) n r i (after-one s p k (n ∷ r) h)
+  -- an assignment of kind k, with n targets
+  assigns : (k n : ℕ) (r : List ℕ) (h : RootAt) → 0x30 ≤ k → 1 ≤ n → drop p s ≡ k ∷ n ∷ r → (fewAt s (place (p + 1)) ≡ B.Of n (place (p + 2)) → h ≡ assignmentAt s k (place (p + 1))) → rootHead s (place p) ≡ h
+  assigns k n r h l i e is =
+      let q : fewAt s (place (p + 1)) ≡ B.Of n (place (p + 2)) = few-here s (p + 1) n r i (after-one s p k (n ∷ r) e) ∙ ap (λ (j : ℕ). B.Of n (place j)) (more-by 1 1 2 refl) in
+      sym (is q ∙ root-assignment s (place p) k (place (p + 1)) (byte-here s p k (n ∷ r) e) l)
 
   pub head-becomes : (n : ℕ) (r : List ℕ) → 1 ≤ n → drop p s ≡ 0x30 ∷ n ∷ r → rootHead s (place p) ≡ R.Becomes n (place (p + 2))
-  unfolding assignmentAt onByte
-  head-becomes n r i h = assigns 0x30 n r (omega arith) i h ∙ (rw (counted 0x30 n r (omega arith) i h, more-by 1 1 2 refl))
+  head-becomes n r i h = assigns 0x30 n r (R.Becomes n (place (p + 2))) (omega arith) i h (λ q. assignment-becomes s 0x30 (place (p + 1)) n (place (p + 2)) q refl)
 
   pub head-becomes-in : (n : ℕ) (r : List ℕ) → 1 ≤ n → drop p s ≡ 0x31 ∷ n ∷ r → rootHead s (place p) ≡ R.BecomesIn n (place (p + 2))
-  unfolding assignmentAt onByte
-  head-becomes-in n r i h = assigns 0x31 n r (omega arith) i h ∙ (rw (counted 0x31 n r (omega arith) i h, more-by 1 1 2 refl))
+  head-becomes-in n r i h = assigns 0x31 n r (R.BecomesIn n (place (p + 2))) (omega arith) i h (λ q. assignment-in s 0x31 (place (p + 1)) n (place (p + 2)) q refl)
 
   pub head-becomes-such : (n : ℕ) (r : List ℕ) → 1 ≤ n → drop p s ≡ 0x32 ∷ n ∷ r → rootHead s (place p) ≡ R.BecomesSuch n (place (p + 2))
-  unfolding assignmentAt onByte
-  head-becomes-such n r i h = assigns 0x32 n r (omega arith) i h ∙ (rw (counted 0x32 n r (omega arith) i h, more-by 1 1 2 refl))
+  head-becomes-such n r i h = assigns 0x32 n r (R.BecomesSuch n (place (p + 2))) (omega arith) i h (λ q. assignment-such s 0x32 (place (p + 1)) n (place (p + 2)) q refl)
 
 -- ---- types and declarations
 

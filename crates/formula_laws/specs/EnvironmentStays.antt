@@ -1,5 +1,5 @@
 -- An environment's fault stays: a stream that begins with the same bytes, up to the fault's place and four bytes more (no head is longer), has the
--- same fault at the same place (`environment-stays`). So with the record there, no bytes after it help.
+-- same fault at the same place (`environment-stays`). So with four bytes of the record there, no bytes after them help.
 use Prim.Native.Nat.{ℕ, zero, suc, _+_, _≤_, _<_}
 use native.Mathlib.Omega.{arith}
 use native.Mathlib.Decide.{decLe}
