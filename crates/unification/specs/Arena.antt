@@ -2,8 +2,8 @@
 --
 -- A node is three words. `nodeAt` says what stands at a reference, for any words whatever: a node, or `bad` where the reference is outside
 -- or the kind is none. `resolve`, `occurs`, `solved`, `read` and `unify` then say, for any words, references and budget, what is answered,
--- what is left of the budget, and (for `unify`) which words stand in every outcome. Order and short cuts are those of the Rust:
--- one unit for each binding followed, one for each node that `occurs` and `solved` stand on after following, one for each pair before it is followed.
+-- what is left of the budget, and (for `unify`) which words stand in every outcome. Order and short cuts are those of the Rust, but for which of two
+-- unknowns is bound (`mergeAt`): one unit for each binding followed, one for each node that `occurs` and `solved` stand on after following, one for each pair before it is followed.
 use Prim.Native.Nat.{ℕ, zero, suc, _+_, _*_, _≤_, _<_}
 use mathlib.Core.Path.{_≡_, refl}
 use mathlib.Core.Bool.{Bool, true, false, _&&_}
@@ -50,6 +50,52 @@ nodeAt ws n x = pick (inside ws n x) (decode (getD ws (3 * x) 0) (getD ws (3 * x
 -- the words after the unknown at v is bound to t
 unfoldable pub bindAt : List ℕ → ℕ → ℕ → List ℕ
 bindAt ws v t = set (set ws (3 * v) 0x4D) (3 * v + 1) t
+
+-- Two unknowns that are made equal: which of them is bound. The third word of an unknown is its rank, 0 when it is made; a binding leaves it.
+-- The rank is never less than the longest chain of bindings between unknowns that leads there. The left unknown is bound to the right one, and where
+-- both have one rank the right one's rises by 1; only where the right one's rank is the smaller is the right one bound to the left one.
+-- (32 is never passed: a rank of r takes 2^r unknowns, and references have 32 bits.)
+unfoldable pub unknown : Node → Bool
+unknown free = true
+unknown (link j) = false
+unknown (leaf p) = false
+unknown (power x) = false
+unknown (pair x y) = false
+unknown bad = false
+
+unfoldable pub rankAt : List ℕ → ℕ → ℕ
+rankAt ws x = getD ws (3 * x + 2) 0
+
+abbrev pub either : Bool → List ℕ → List ℕ → List ℕ
+either true x y = x
+either false x y = y
+
+-- t is an unknown too, of a smaller rank than v's; of the same rank
+unfoldable pub below : List ℕ → ℕ → ℕ → ℕ → Bool
+unfolding unknown nodeAt rankAt
+below ws n v t = unknown (nodeAt ws n t) && ltb (rankAt ws t) (rankAt ws v)
+
+unfoldable pub level : List ℕ → ℕ → ℕ → ℕ → Bool
+unfolding unknown nodeAt rankAt
+level ws n v t = unknown (nodeAt ws n t) && (eqb (rankAt ws t) (rankAt ws v) && ltb (rankAt ws t) 32)
+
+unfoldable pub raised : List ℕ → ℕ → ℕ → ℕ → List ℕ
+unfolding level rankAt
+raised ws n v t = either (level ws n v t) (set ws (3 * t + 2) (suc (rankAt ws t))) ws
+
+-- what is done with an unknown v and a node t that are to be one: from the words, the count, v and t to the words after it
+abbrev pub Direction : Type 0
+Direction = List ℕ → ℕ → ℕ → ℕ → List ℕ
+
+-- the unknown v is made equal to t, which may be anything that is no binding
+unfoldable pub mergeAt : Direction
+unfolding below raised bindAt
+mergeAt ws n v t = either (below ws n v t) (bindAt ws t v) (bindAt (raised ws n v t) v t)
+
+-- the Rust's direction: of two unknowns it binds the left one, which is the one that is taken up as v
+unfoldable pub leftBound : Direction
+unfolding bindAt
+leftBound ws n v t = bindAt ws v t
 
 abbrev pub U : Type 0
 U = Unit {0}
@@ -187,14 +233,14 @@ Pair = Words × ℕ × ℕ
 abbrev pub Answer : Type 0
 Answer = Verdict × Words
 
-unfoldable pub bound : Words → ℕ → ℕ → Bool → M Words Answer
-unfolding ret bindAt
-bound ws v t true = ret (circular, ws)
-bound ws v t false = ret (unified, bindAt ws v t)
+unfoldable pub bound : Words → ℕ → ℕ → ℕ → Bool → M Words Answer
+unfolding ret mergeAt
+bound ws n v t true = ret (circular, ws)
+bound ws n v t false = ret (unified, mergeAt ws n v t)
 
 unfoldable pub assign : Words → ℕ → ℕ → ℕ → M Words Answer
 unfolding bound reading occurs _>>=_
-assign ws n v t = reading ws (occurs ws n v t) >>= bound ws v t
+assign ws n v t = reading ws (occurs ws n v t) >>= bound ws n v t
 
 unfoldable pub next : (Pair → M Words Answer) → ℕ → ℕ → Verdict → Words → M Words Answer
 unfolding ret

@@ -1,7 +1,9 @@
--- The unifier as rules, with no budget in them: each line is a line of the Rust, and each derivation has its price in units.
+-- The unifier as rules, with no budget in them: each line is a line of the Rust but for which of two unknowns is bound, and each derivation has its price in units.
 --
 -- `Follows`: where the bindings from a reference lead. `Occurs`: whether an unknown occurs. `Tells`: how two references are made equal, which of mismatch and
 -- circularity a failure is, and which words stand. `breaks` is a refusal: a link or reference outside, or an unknown kind, was met there.
+-- What is bound to what is the rules' parameter: `mergeAt` is what this unifier does, `leftBound` what the Rust does (`Direction` has the theorem that nothing
+-- which is answered depends on it).
 -- `tells-run`: at a budget of its price or more a derivation is what `unify` answers, with what is over left; below its price the budget is spent.
 -- `run-tells`: whatever `unify` answers or refuses, on any words, has a derivation. So the rules say exactly which answer is given and which refusal.
 use Prim.Native.Nat.{ℕ, zero, suc, _+_, _-_, _*_, _≤_, _<_}
@@ -14,7 +16,7 @@ use lib.Dec.{eqb}
 use borrow.Author.Tests.{eq-eqb, ne-eqb}
 use Rattle.meter.specs.Meter.{Out, spent, halt, done, Why, broken, full, M, ret, fail, tick, on, _>>=_, atE, reading}
 use Rattle.types.specs.Ty.{Atom}
-use Rattle.unification.specs.Arena.{Node, free, link, leaf, power, pair, bad, Words, U, nodeAt, bindAt, choose, inNode, occurs, Verdict, unified, mismatch, circular, Meeting, bindLeft, bindRight, agree, clash, down, both, meet, Answer, bound, assign, next, unify}
+use Rattle.unification.specs.Arena.{Node, free, link, leaf, power, pair, bad, Words, U, nodeAt, Direction, mergeAt, choose, inNode, occurs, Verdict, unified, mismatch, circular, Meeting, bindLeft, bindRight, agree, clash, down, both, meet, Answer, bound, assign, next, unify}
 use Rattle.unification.specs.Good.{Root}
 use Rattle.unification.specs.Tasks.{arrive, reach, Task, same, differ, bind, one, two, taskOf, takeUp, perform, arrive-root, arrive-bad, arrive-link, reach-arrive, occurs-reach, unify-tasks, arrive-left, arrive-stands, Stands}
 use Rattle.unification.specs.Code.{tick-none, tick-some, bind-done, bind-spent, bind-halt, read-done, read-spent, read-halt, occurs-left, unify-left}
@@ -58,22 +60,22 @@ pub record Apart (ws : Words) (n a b : ℕ) (o u : ℕ × Node) (c : ℕ) : Type
   pub apart : o .0 ≢ u .0
   pub cost : leftCost + rightCost ≡ c
 
--- ---- how a is made equal to b: one unit for the pair; what is bound stands
-pub data Tells (n : ℕ) : Words → ℕ → ℕ → End Verdict → Words → ℕ → Type 0 where
-  left-out : {ws : Words} {a b c : ℕ} → Follows ws n a breaks c → Tells n ws a b breaks ws (suc c)
-  right-out : {ws : Words} {a b c d : ℕ} {o : ℕ × Node} → Follows ws n a (ends o) c → Follows ws n b breaks d → Tells n ws a b breaks ws (suc (c + d))
-  equal : {ws : Words} {a b c d : ℕ} {o u : ℕ × Node} → Follows ws n a (ends o) c → Follows ws n b (ends u) d → o .0 ≡ u .0 → Tells n ws a b (ends unified) ws (suc (c + d))
-  agrees : {ws : Words} {a b c : ℕ} {o u : ℕ × Node} → Apart ws n a b o u c → meet (o .1) (u .1) ≡ agree → Tells n ws a b (ends unified) ws (suc c)
-  clashes : {ws : Words} {a b c : ℕ} {o u : ℕ × Node} → Apart ws n a b o u c → meet (o .1) (u .1) ≡ clash → Tells n ws a b (ends mismatch) ws (suc c)
-  binds-left : {ws : Words} {a b c d : ℕ} {o u : ℕ × Node} → Apart ws n a b o u c → meet (o .1) (u .1) ≡ bindLeft → Occurs ws n (o .0) (u .0) (ends false) d → Tells n ws a b (ends unified) (bindAt ws (o .0) (u .0)) (suc (c + d))
-  circles-left : {ws : Words} {a b c d : ℕ} {o u : ℕ × Node} → Apart ws n a b o u c → meet (o .1) (u .1) ≡ bindLeft → Occurs ws n (o .0) (u .0) (ends true) d → Tells n ws a b (ends circular) ws (suc (c + d))
-  breaks-left : {ws : Words} {a b c d : ℕ} {o u : ℕ × Node} → Apart ws n a b o u c → meet (o .1) (u .1) ≡ bindLeft → Occurs ws n (o .0) (u .0) breaks d → Tells n ws a b breaks ws (suc (c + d))
-  binds-right : {ws : Words} {a b c d : ℕ} {o u : ℕ × Node} → Apart ws n a b o u c → meet (o .1) (u .1) ≡ bindRight → Occurs ws n (u .0) (o .0) (ends false) d → Tells n ws a b (ends unified) (bindAt ws (u .0) (o .0)) (suc (c + d))
-  circles-right : {ws : Words} {a b c d : ℕ} {o u : ℕ × Node} → Apart ws n a b o u c → meet (o .1) (u .1) ≡ bindRight → Occurs ws n (u .0) (o .0) (ends true) d → Tells n ws a b (ends circular) ws (suc (c + d))
-  breaks-right : {ws : Words} {a b c d : ℕ} {o u : ℕ × Node} → Apart ws n a b o u c → meet (o .1) (u .1) ≡ bindRight → Occurs ws n (u .0) (o .0) breaks d → Tells n ws a b breaks ws (suc (c + d))
-  powers : {ws ws′ : Words} {a b c d x y : ℕ} {o u : ℕ × Node} {e : End Verdict} → Apart ws n a b o u c → meet (o .1) (u .1) ≡ down x y → Tells n ws x y e ws′ d → Tells n ws a b e ws′ (suc (c + d))
-  left-ends : {ws ws′ : Words} {a b c d x y z w : ℕ} {o u : ℕ × Node} {e : End Verdict} → Apart ws n a b o u c → meet (o .1) (u .1) ≡ both x y z w → Tells n ws x z e ws′ d → e ≢ ends unified → Tells n ws a b e ws′ (suc (c + d))
-  halves : {ws ws′ ws″ : Words} {a b c d f x y z w : ℕ} {o u : ℕ × Node} {e : End Verdict} → Apart ws n a b o u c → meet (o .1) (u .1) ≡ both x y z w → Tells n ws x z (ends unified) ws′ d → Tells n ws′ y w e ws″ f → Tells n ws a b e ws″ (suc (c + (d + f)))
+-- ---- how a is made equal to b: one unit for the pair; what is bound stands. `by` says which of two unknowns that is
+pub data Tells (by : Direction) (n : ℕ) : Words → ℕ → ℕ → End Verdict → Words → ℕ → Type 0 where
+  left-out : {ws : Words} {a b c : ℕ} → Follows ws n a breaks c → Tells by n ws a b breaks ws (suc c)
+  right-out : {ws : Words} {a b c d : ℕ} {o : ℕ × Node} → Follows ws n a (ends o) c → Follows ws n b breaks d → Tells by n ws a b breaks ws (suc (c + d))
+  equal : {ws : Words} {a b c d : ℕ} {o u : ℕ × Node} → Follows ws n a (ends o) c → Follows ws n b (ends u) d → o .0 ≡ u .0 → Tells by n ws a b (ends unified) ws (suc (c + d))
+  agrees : {ws : Words} {a b c : ℕ} {o u : ℕ × Node} → Apart ws n a b o u c → meet (o .1) (u .1) ≡ agree → Tells by n ws a b (ends unified) ws (suc c)
+  clashes : {ws : Words} {a b c : ℕ} {o u : ℕ × Node} → Apart ws n a b o u c → meet (o .1) (u .1) ≡ clash → Tells by n ws a b (ends mismatch) ws (suc c)
+  binds-left : {ws : Words} {a b c d : ℕ} {o u : ℕ × Node} → Apart ws n a b o u c → meet (o .1) (u .1) ≡ bindLeft → Occurs ws n (o .0) (u .0) (ends false) d → Tells by n ws a b (ends unified) (by ws n (o .0) (u .0)) (suc (c + d))
+  circles-left : {ws : Words} {a b c d : ℕ} {o u : ℕ × Node} → Apart ws n a b o u c → meet (o .1) (u .1) ≡ bindLeft → Occurs ws n (o .0) (u .0) (ends true) d → Tells by n ws a b (ends circular) ws (suc (c + d))
+  breaks-left : {ws : Words} {a b c d : ℕ} {o u : ℕ × Node} → Apart ws n a b o u c → meet (o .1) (u .1) ≡ bindLeft → Occurs ws n (o .0) (u .0) breaks d → Tells by n ws a b breaks ws (suc (c + d))
+  binds-right : {ws : Words} {a b c d : ℕ} {o u : ℕ × Node} → Apart ws n a b o u c → meet (o .1) (u .1) ≡ bindRight → Occurs ws n (u .0) (o .0) (ends false) d → Tells by n ws a b (ends unified) (by ws n (u .0) (o .0)) (suc (c + d))
+  circles-right : {ws : Words} {a b c d : ℕ} {o u : ℕ × Node} → Apart ws n a b o u c → meet (o .1) (u .1) ≡ bindRight → Occurs ws n (u .0) (o .0) (ends true) d → Tells by n ws a b (ends circular) ws (suc (c + d))
+  breaks-right : {ws : Words} {a b c d : ℕ} {o u : ℕ × Node} → Apart ws n a b o u c → meet (o .1) (u .1) ≡ bindRight → Occurs ws n (u .0) (o .0) breaks d → Tells by n ws a b breaks ws (suc (c + d))
+  powers : {ws ws′ : Words} {a b c d x y : ℕ} {o u : ℕ × Node} {e : End Verdict} → Apart ws n a b o u c → meet (o .1) (u .1) ≡ down x y → Tells by n ws x y e ws′ d → Tells by n ws a b e ws′ (suc (c + d))
+  left-ends : {ws ws′ : Words} {a b c d x y z w : ℕ} {o u : ℕ × Node} {e : End Verdict} → Apart ws n a b o u c → meet (o .1) (u .1) ≡ both x y z w → Tells by n ws x z e ws′ d → e ≢ ends unified → Tells by n ws a b e ws′ (suc (c + d))
+  halves : {ws ws′ ws″ : Words} {a b c d f x y z w : ℕ} {o u : ℕ × Node} {e : End Verdict} → Apart ws n a b o u c → meet (o .1) (u .1) ≡ both x y z w → Tells by n ws x z (ends unified) ws′ d → Tells by n ws′ y w e ws″ f → Tells by n ws a b e ws″ (suc (c + (d + f)))
 
 -- ---- a price: from it on this outcome, below it spent
 pub record Priced {E A : Type 0} (m : M E A) (o : ℕ → Out E A) (c : ℕ) : Type 0 where
@@ -231,17 +233,17 @@ module _ (n : ℕ) where
     refused x = priced-eq (unify-tasks ws n a b) (priced-stop (perform (unify n) ws n) (broken-reading ws x))
 
   module _ (ws : Words) (v t d : ℕ) where
-    assign-no : Occurs ws n v t (ends false) d → Priced (assign ws n v t) (λ r. done (unified, bindAt ws v t) r) d
+    assign-no : Occurs ws n v t (ends false) d → Priced (assign ws n v t) (λ r. done (unified, mergeAt ws n v t) r) d
     unfolding outcome assign bound
-    assign-no x = priced-at (omega arith) (priced-bind (bound ws v t) (priced-reading ws (occurs-run ws n v x)) (priced-ret (unified, bindAt ws v t)))
+    assign-no x = priced-at (omega arith) (priced-bind (bound ws n v t) (priced-reading ws (occurs-run ws n v x)) (priced-ret (unified, mergeAt ws n v t)))
 
     assign-yes : Occurs ws n v t (ends true) d → Priced (assign ws n v t) (λ r. done (circular, ws) r) d
     unfolding outcome assign bound
-    assign-yes x = priced-at (omega arith) (priced-bind (bound ws v t) (priced-reading ws (occurs-run ws n v x)) (priced-ret (circular, ws)))
+    assign-yes x = priced-at (omega arith) (priced-bind (bound ws n v t) (priced-reading ws (occurs-run ws n v x)) (priced-ret (circular, ws)))
 
     assign-breaks : Occurs ws n v t breaks d → Priced (assign ws n v t) (λ r. halt broken ws) d
     unfolding outcome assign
-    assign-breaks x = priced-stop (bound ws v t) (broken-reading ws (occurs-run ws n v x))
+    assign-breaks x = priced-stop (bound ws n v t) (broken-reading ws (occurs-run ws n v x))
 
   left-only : (ws ws′ : Words) (x z y w d : ℕ) (e : End Verdict) → e ≢ ends unified → Priced (unify n (ws, x, z)) (told e ws′) d → Priced (perform (unify n) ws n (two x z y w)) (told e ws′) d
   unfolding perform told next
@@ -251,7 +253,7 @@ module _ (n : ℕ) where
   left-only ws ws′ x z y w d breaks h q = priced-stop (λ o. next (unify n) y w (o .0) (o .1)) q
 
   -- a derivation's price, at every budget
-  pub tells-run : {ws ws′ : Words} {a b c : ℕ} {e : End Verdict} → Tells n ws a b e ws′ c → Priced (unify n (ws, a, b)) (told e ws′) c
+  pub tells-run : {ws ws′ : Words} {a b c : ℕ} {e : End Verdict} → Tells mergeAt n ws a b e ws′ c → Priced (unify n (ws, a, b)) (told e ws′) c
   unfolding told perform taskOf next
   tells-run (left-out {ws} {a} {b} f) = refused ws a b (first-out ws a b f)
   tells-run (right-out {ws} {a} {b} f g) = refused ws a b (second-out ws a b f g)
@@ -274,15 +276,15 @@ Led ws n t (spent e) = Unit {0}
 Led ws n t (halt w e) = (w ≡ broken) × ((c : ℕ) × Follows ws n t breaks c)
 Led ws n t (done o r) = (c : ℕ) × Follows ws n t (ends o) c
 
-abbrev Sought : Words → ℕ → ℕ → ℕ → Out U Bool → Type 0
+abbrev pub Sought : Words → ℕ → ℕ → ℕ → Out U Bool → Type 0
 Sought ws n v t (spent e) = Unit {0}
 Sought ws n v t (halt w e) = (w ≡ broken) × ((c : ℕ) × Occurs ws n v t breaks c)
 Sought ws n v t (done x r) = (c : ℕ) × Occurs ws n v t (ends x) c
 
 abbrev pub Told : ℕ → Words → ℕ → ℕ → Out Words Answer → Type 0
 Told n ws a b (spent e) = Unit {0}
-Told n ws a b (halt w ws′) = (w ≡ broken) × ((c : ℕ) × Tells n ws a b breaks ws′ c)
-Told n ws a b (done x r) = (c : ℕ) × Tells n ws a b (ends (x .0)) (x .1) c
+Told n ws a b (halt w ws′) = (w ≡ broken) × ((c : ℕ) × Tells mergeAt n ws a b breaks ws′ c)
+Told n ws a b (done x r) = (c : ℕ) × Tells mergeAt n ws a b (ends (x .0)) (x .1) c
 
 module _ (ws : Words) (n : ℕ) where
   led-along : (t j : ℕ) → nodeAt ws n t ≡ link j → (o : Out U (ℕ × Node)) → Led ws n j o → Led ws n t o
@@ -381,7 +383,7 @@ module _ (n : ℕ) where
   told-power ws a b x y c o u p e (halt w f) h = (h .0, (suc (c + h .1 .0), powers p e (h .1 .1)))
   told-power ws a b x y c o u p e (done z s) h = (suc (c + h .0), powers p e (h .1))
 
-  told-right : (ws ws′ : Words) (a b x y z w c d : ℕ) (o u : ℕ × Node) → Apart ws n a b o u c → meet (o .1) (u .1) ≡ both x y z w → Tells n ws x z (ends unified) ws′ d → (q : Out Words Answer) → Told n ws′ y w q → Told n ws a b q
+  told-right : (ws ws′ : Words) (a b x y z w c d : ℕ) (o u : ℕ × Node) → Apart ws n a b o u c → meet (o .1) (u .1) ≡ both x y z w → Tells mergeAt n ws x z (ends unified) ws′ d → (q : Out Words Answer) → Told n ws′ y w q → Told n ws a b q
   told-right ws ws′ a b x y z w c d o u p e g (spent f) h = tt
   told-right ws ws′ a b x y z w c d o u p e g (halt i f) h = (h .0, (suc (c + (d + h .1 .0)), halves p e g (h .1 .1)))
   told-right ws ws′ a b x y z w c d o u p e g (done k s) h = (suc (c + (d + h .0)), halves p e g (h .1))
@@ -404,14 +406,14 @@ module _ (n : ℕ) where
     told-halves x y z w m l e (done (mismatch, ws′) s) g h = (suc (c + h .0), left-ends p e (h .1) no-mismatch)
     told-halves x y z w m l e (done (circular, ws′) s) g h = (suc (c + h .0), left-ends p e (h .1) no-circular)
 
-    told-left : meet (o .1) (u .1) ≡ bindLeft → (q : Out U Bool) → Sought ws n (o .0) (u .0) q → Told n ws a b (on (atE ws q) (bound ws (o .0) (u .0)))
+    told-left : meet (o .1) (u .1) ≡ bindLeft → (q : Out U Bool) → Sought ws n (o .0) (u .0) q → Told n ws a b (on (atE ws q) (bound ws n (o .0) (u .0)))
     unfolding on atE bound ret
     told-left e (spent f) h = tt
     told-left e (halt w f) h = (h .0, (suc (c + h .1 .0), breaks-left p e (h .1 .1)))
     told-left e (done true s) h = (suc (c + h .0), circles-left p e (h .1))
     told-left e (done false s) h = (suc (c + h .0), binds-left p e (h .1))
 
-    told-bind-right : meet (o .1) (u .1) ≡ bindRight → (q : Out U Bool) → Sought ws n (u .0) (o .0) q → Told n ws a b (on (atE ws q) (bound ws (u .0) (o .0)))
+    told-bind-right : meet (o .1) (u .1) ≡ bindRight → (q : Out U Bool) → Sought ws n (u .0) (o .0) q → Told n ws a b (on (atE ws q) (bound ws n (u .0) (o .0)))
     unfolding on atE bound ret
     told-bind-right e (spent f) h = tt
     told-bind-right e (halt w f) h = (h .0, (suc (c + h .1 .0), breaks-right p e (h .1 .1)))

@@ -3,6 +3,7 @@ pub mod Arenas
 pub mod Steps
 pub mod Trees
 pub mod Good
+pub mod Merge
 pub mod Readers
 pub mod Unifies
 pub mod Twin
@@ -19,5 +20,7 @@ pub mod Past
 pub mod Put
 pub mod Histories
 pub mod ByRule
+pub mod Carry
+pub mod Short
 pub mod Lift
 mod Cases

@@ -12,9 +12,10 @@ use lib.ListN.{length}
 use borrow.Author.Tests.{eqb-true, eqb-false, eq-eqb, ne-eqb}
 use Rattle.meter.specs.Meter.{Out, spent, halt, done, M, ret, fail, tick, _>>=_, reading, Exact, exact-ret, exact-tick, exact-eq, exact-map, exact-bind, exact-reading}
 use Rattle.types.specs.Ty.{Atom, bool, int, given, Ty, base, pow, prod}
-use Rattle.unification.specs.Arena.{Node, free, link, leaf, power, pair, bad, Words, U, nodeAt, bindAt, choose, resolve, occurs, Verdict, unified, mismatch, circular, Meeting, bindLeft, bindRight, agree, clash, down, both, sameAtom, verdictOf, meet, Pair, Answer, bound, assign, next, meeting, unifyAt, unifyF, unify}
+use Rattle.unification.specs.Arena.{Node, free, link, leaf, power, pair, bad, Words, U, nodeAt, mergeAt, choose, resolve, occurs, Verdict, unified, mismatch, circular, Meeting, bindLeft, bindRight, agree, clash, down, both, sameAtom, verdictOf, meet, Pair, Answer, bound, assign, next, meeting, unifyAt, unifyF, unify}
 use Rattle.unification.specs.Trees.{Tm, var, tbase, tpow, tprod, eval, has, ground, size, weight, has-proper}
-use Rattle.unification.specs.Good.{Assignment, Says, Admits, Fits, Good, Root, spelt, good-bind, bind-keeps, bind-makes, bind-takes, frees, frees-bind, length-bind, node-bind-same, node-bind-other}
+use Rattle.unification.specs.Good.{Assignment, Says, Admits, Fits, Good, Root, spelt, good-bind, bind-keeps, bind-makes, bind-takes, frees, frees-bind}
+use Rattle.unification.specs.Merge.{Binds, Merged, to-right, to-left, merged}
 use Rattle.unification.specs.Steps.{unify-eq}
 use Rattle.unification.specs.Readers.{Rooted, resolve-exact, occurs-exact}
 
@@ -70,21 +71,25 @@ module _ (n : ℕ) where
   abbrev pub Does : Words → (Assignment → Type 0) → M Words Answer → Type 0
   Does ws E m = Exact (Kept ws E) (Outcome ws E) m
 
-  kept-refl : (ws : Words) (E : Assignment → Type 0) → Good n (nodeAt ws n) → Kept ws E ws
+  pub kept-refl : (ws : Words) (E : Assignment → Type 0) → Good n (nodeAt ws n) → Kept ws E ws
   kept-refl ws E G = record { sized = refl; good = G; keeps = λ σ A. A; takes = λ σ A q. A; moved = stayed refl }
 
-  kept-map : {ws ws′ : Words} {E E′ : Assignment → Type 0} → ((σ : Assignment) → Allows ws σ → E σ → E′ σ) → Kept ws E′ ws′ → Kept ws E ws′
+  pub kept-map : {ws ws′ : Words} {E E′ : Assignment → Type 0} → ((σ : Assignment) → Allows ws σ → E σ → E′ σ) → Kept ws E′ ws′ → Kept ws E ws′
   kept-map f k = record { sized = k .sized; good = k .good; keeps = k .keeps; takes = λ σ A q. k .takes σ A (f σ A q); moved = k .moved }
 
-  judges-map : {ws ws′ : Words} {E E′ : Assignment → Type 0} → ((σ : Assignment) → Allows ws σ → E σ → E′ σ) → ((σ : Assignment) → Allows ws σ → E′ σ → E σ)
+  pub judges-map : {ws ws′ : Words} {E E′ : Assignment → Type 0} → ((σ : Assignment) → Allows ws σ → E σ → E′ σ) → ((σ : Assignment) → Allows ws σ → E′ σ → E σ)
       → Kept ws E′ ws′ → (o : Verdict) → Judges ws E′ ws′ o → Judges ws E ws′ o
   judges-map f g k unified j = λ σ A. g σ (k .keeps σ A) (j σ A)
   judges-map f g k mismatch j = λ σ A q. j σ A (f σ A q)
   judges-map f g k circular j = λ σ A q. j σ A (f σ A q)
 
+  -- the same equation in other words
+  pub outcome-map : {ws : Words} {E E′ : Assignment → Type 0} {o : Answer} → ((σ : Assignment) → Allows ws σ → E σ → E′ σ) → ((σ : Assignment) → Allows ws σ → E′ σ → E σ) → Outcome ws E′ o → Outcome ws E o
+  outcome-map {o = o} f g h = record { kept = kept-map f (h .kept); judged = judges-map f g (h .kept) (o .0) (h .judged) }
+
   does-map : {ws : Words} {E E′ : Assignment → Type 0} {m : M Words Answer} → ((σ : Assignment) → Allows ws σ → E σ → E′ σ) → ((σ : Assignment) → Allows ws σ → E′ σ → E σ)
       → Does ws E′ m → Does ws E m
-  does-map f g x = exact-map (λ e k. kept-map f k) (λ o h. record { kept = kept-map f (h .kept); judged = judges-map f g (h .kept) (o .0) (h .judged) }) x
+  does-map f g x = exact-map (λ e k. kept-map f k) (λ o h. outcome-map f g h) x
 
   moved-trans : {ws ws₁ ws₂ : Words} → Moved ws ws₁ → Moved ws₁ ws₂ → Moved ws ws₂
   moved-trans (stayed p) (stayed q) = stayed (q ∙ p)
@@ -92,7 +97,7 @@ module _ (n : ℕ) where
   moved-trans {ws} {ws₁} {ws₂} (fewer p) (stayed q) = fewer (rw q p)
   moved-trans (fewer p) (fewer q) = fewer (omega arith)
 
-  kept-trans : {ws ws₁ ws₂ : Words} {E E₁ E₂ : Assignment → Type 0} → ((σ : Assignment) → Allows ws σ → E σ → E₁ σ × E₂ σ) → Kept ws E₁ ws₁ → Kept ws₁ E₂ ws₂ → Kept ws E ws₂
+  pub kept-trans : {ws ws₁ ws₂ : Words} {E E₁ E₂ : Assignment → Type 0} → ((σ : Assignment) → Allows ws σ → E σ → E₁ σ × E₂ σ) → Kept ws E₁ ws₁ → Kept ws₁ E₂ ws₂ → Kept ws E ws₂
   kept-trans f k l = record {
     sized = l .sized ∙ k .sized;
     good = l .good;
@@ -122,30 +127,79 @@ module _ (n : ℕ) where
     not-var (pair y z) f q e = let w = f .2 in let u : _≡_ {A = ℕ} 0 1 = cc in omega arith
     not-var bad f q e = q
 
-    never : has v (G .tree t) ≡ true → (σ : Assignment) → Allows ws σ → σ v ≡ σ t → ⊥
+    pub never : has v (G .tree t) ≡ true → (σ : Assignment) → Allows ws σ → σ v ≡ σ t → ⊥
     never h σ A e =
         let p = has-proper σ v (G .tree t) h (not-var (nodeAt ws n t) (G .fits t tl) root) in
         let q : weight (σ v) ≡ weight (eval σ (G .tree t)) = ap weight (e ∙ spelt n (nodeAt ws n) G σ A t tl) in
         omega arith
 
-    bound-does : (c : Bool) → c ≡ has v (G .tree t) → Does ws Bound (bound ws v t c)
+    -- an unknown that is bound to what it does not occur in
+    binding : (x y : ℕ) (ws′ : Words) → Binds n ws x y ws′ → x < n → y < n → nodeAt ws n x ≡ free → Root (nodeAt ws n y) → G .tree x ≡ var x → has x (G .tree y) ≡ false → x ≢ y → Outcome ws (λ σ. σ x ≡ σ y) (unified, ws′)
+    binding x y ws′ B xl yl fx ry tx ab d =
+        let here = B .here in
+        let there = B .there in
+        let k : Kept ws (λ σ. σ x ≡ σ y) ws′ = record {
+          sized = B .long;
+          good = good-bind n (nodeAt ws n) (nodeAt ws′ n) x y here there G yl ry tx ab d;
+          keeps = bind-keeps n (nodeAt ws n) (nodeAt ws′ n) x y here there xl fx;
+          takes = bind-takes n (nodeAt ws n) (nodeAt ws′ n) x y here there xl fx;
+          moved = (let q = frees-bind (nodeAt ws n) (nodeAt ws′ n) x y here there fx n xl in fewer (omega arith));
+        } in
+        record { kept = k; judged = bind-makes n (nodeAt ws n) (nodeAt ws′ n) x y here there xl fx }
+
+    tree-t : nodeAt ws n t ≡ free → G .tree t ≡ var t
+    tree-t e = subst (λ (k : Node). Fits n (G .tree) (G .rank) t k) e (G .fits t tl)
+
+    pub merging : (ws′ : Words) → Merged n ws v t ws′ → has v (G .tree t) ≡ false → Outcome ws Bound (unified, ws′)
+    unfolding has
+    merging ws′ (to-right B) h = binding v t ws′ B vl tl fr root tree-v h ne
+    merging ws′ (to-left e B) h =
+        let o = binding t v ws′ B tl vl e (subst (λ (k : Node). Root k) (sym fr) tt) (tree-t e) (ap (has t) tree-v ∙ ne-eqb v t ne) (λ q. ne (sym q)) in
+        record { kept = kept-map (λ σ A q. sym q) (o .kept); judged = λ σ A. sym (o .judged σ A) }
+
+    bound-does : (c : Bool) → c ≡ has v (G .tree t) → Does ws Bound (bound ws n v t c)
     unfolding bound
     bound-does true h = answers ws Bound circular G (never (sym h))
-    bound-does false h =
-        let here = node-bind-same ws n v t vl s in
-        let there = node-bind-other ws n v t in
-        let k : Kept ws Bound (bindAt ws v t) = record {
-          sized = length-bind ws v t;
-          good = good-bind n (nodeAt ws n) (nodeAt (bindAt ws v t) n) v t here there G tl root tree-v (sym h) ne;
-          keeps = bind-keeps n (nodeAt ws n) (nodeAt (bindAt ws v t) n) v t here there vl fr;
-          takes = bind-takes n (nodeAt ws n) (nodeAt (bindAt ws v t) n) v t here there vl fr;
-          moved = (let q = frees-bind (nodeAt ws n) (nodeAt (bindAt ws v t) n) v t here there fr n vl in fewer (omega arith));
-        } in
-        exact-ret _ (unified, bindAt ws v t) (record { kept = k; judged = bind-makes n (nodeAt ws n) (nodeAt (bindAt ws v t) n) v t here there vl fr })
+    bound-does false h = exact-ret _ (unified, mergeAt ws n v t) (merging (mergeAt ws n v t) (merged ws n v t s vl tl) (sym h))
 
     assign-does : Does ws Bound (assign ws n v t)
     unfolding assign
     assign-does = exact-bind (exact-reading ws (kept-refl ws Bound G) (occurs-exact ws n G v t tl)) (λ c h. bound-does c (h tree-v))
+
+  not-mismatch : _≢_ {A = Verdict} mismatch unified
+  not-mismatch e = let z : _≡_ {A = ℕ} 0 1 = cc in omega arith
+
+  not-circular : _≢_ {A = Verdict} circular unified
+  not-circular e = let z : _≡_ {A = ℕ} 0 1 = cc in omega arith
+
+  -- a pair met a pair: the equation splits, and joins again
+  module _ (ws : Words) (a b : ℕ) (al : a < n) (bl : b < n) (x y z w : ℕ) (ea : nodeAt ws n a ≡ pair x y) (eb : nodeAt ws n b ≡ pair z w) where
+    left-says : (σ : Assignment) → Allows ws σ → σ a ≡ prod (σ x) (σ y)
+    left-says σ A = subst (λ (k : Node). Says σ a k) ea (A a al)
+
+    right-says : (σ : Assignment) → Allows ws σ → σ b ≡ prod (σ z) (σ w)
+    right-says σ A = subst (λ (k : Node). Says σ b k) eb (A b bl)
+
+    pub split : (σ : Assignment) → Allows ws σ → σ a ≡ σ b → (σ x ≡ σ z) × (σ y ≡ σ w)
+    split σ A q = let u = left-says σ A in let v = right-says σ A in (cc, cc)
+
+    join : (σ : Assignment) → Allows ws σ → σ x ≡ σ z → σ y ≡ σ w → σ a ≡ σ b
+    join σ A p q = let u = left-says σ A in let v = right-says σ A in cc
+
+    judges-next : (ws′ ws″ : Words) → Kept ws (λ σ. σ x ≡ σ z) ws′ → Judges ws (λ σ. σ x ≡ σ z) ws′ unified → Kept ws′ (λ σ. σ y ≡ σ w) ws″ → (o : Verdict) → Judges ws′ (λ σ. σ y ≡ σ w) ws″ o → Judges ws (λ σ. σ a ≡ σ b) ws″ o
+    judges-next ws′ ws″ k j l unified i = λ σ A. (let B = l .keeps σ A in join σ (k .keeps σ B) (j σ B) (i σ A))
+    judges-next ws′ ws″ k j l mismatch i = λ σ A q. (let e = split σ A q in i σ (k .takes σ A (e .0)) (e .1))
+    judges-next ws′ ws″ k j l circular i = λ σ A q. (let e = split σ A q in i σ (k .takes σ A (e .0)) (e .1))
+
+    -- the left halves are one: the right halves decide
+    pub right-half : (ws′ : Words) (o : Answer) → Outcome ws (λ σ. σ x ≡ σ z) (unified, ws′) → Outcome ws′ (λ σ. σ y ≡ σ w) o → Outcome ws (λ σ. σ a ≡ σ b) o
+    right-half ws′ o h g = record { kept = kept-trans split (h .kept) (g .kept); judged = judges-next ws′ (o .1) (h .kept) (h .judged) (g .kept) (o .0) (g .judged) }
+
+    -- the left halves fail: the right ones are not looked at
+    pub left-half : (o : Verdict) (ws′ : Words) → o ≢ unified → Outcome ws (λ σ. σ x ≡ σ z) (o, ws′) → Outcome ws (λ σ. σ a ≡ σ b) (o, ws′)
+    left-half unified ws′ d h = absurd (d refl)
+    left-half mismatch ws′ d h = record { kept = kept-map (λ σ A e. split σ A e .0) (h .kept); judged = λ σ A e. h .judged σ A (split σ A e .0) }
+    left-half circular ws′ d h = record { kept = kept-map (λ σ A e. split σ A e .0) (h .kept); judged = λ σ A e. h .judged σ A (split σ A e .0) }
 
   -- the nodes met
   module _ (ws : Words) (s : 3 * n ≤ length ws) (G : Good n (nodeAt ws n)) (a b : ℕ) (al : a < n) (bl : b < n) (ne : a ≢ b)
@@ -169,32 +223,12 @@ module _ (n : ℕ) where
     right-after y w yl wl q ws′ s′ G′ (stayed e) = subst (λ (l : Words). Does l (λ σ. σ y ≡ σ w) (unify n (l, y, w))) (sym e) (rec y w yl wl q)
     right-after y w yl wl q ws′ s′ G′ (fewer f) = less ws′ s′ G′ f y w yl wl
 
-    -- a pair met a pair: the equation splits, and joins again
-    module _ (x y z w : ℕ) (ea : nodeAt ws n a ≡ pair x y) (eb : nodeAt ws n b ≡ pair z w) where
-      left-says : (σ : Assignment) → Allows ws σ → σ a ≡ prod (σ x) (σ y)
-      left-says σ A = subst (λ (k : Node). Says σ a k) ea (A a al)
-
-      right-says : (σ : Assignment) → Allows ws σ → σ b ≡ prod (σ z) (σ w)
-      right-says σ A = subst (λ (k : Node). Says σ b k) eb (A b bl)
-
-      split : (σ : Assignment) → Allows ws σ → σ a ≡ σ b → (σ x ≡ σ z) × (σ y ≡ σ w)
-      split σ A q = let u = left-says σ A in let v = right-says σ A in (cc, cc)
-
-      join : (σ : Assignment) → Allows ws σ → σ x ≡ σ z → σ y ≡ σ w → σ a ≡ σ b
-      join σ A p q = let u = left-says σ A in let v = right-says σ A in cc
-
-      judges-next : (ws′ ws″ : Words) → Kept ws (λ σ. σ x ≡ σ z) ws′ → Judges ws (λ σ. σ x ≡ σ z) ws′ unified → Kept ws′ (λ σ. σ y ≡ σ w) ws″ → (o : Verdict) → Judges ws′ (λ σ. σ y ≡ σ w) ws″ o → Judges ws Same ws″ o
-      judges-next ws′ ws″ k j l unified i = λ σ A. (let B = l .keeps σ A in join σ (k .keeps σ B) (j σ B) (i σ A))
-      judges-next ws′ ws″ k j l mismatch i = λ σ A q. (let e = split σ A q in i σ (k .takes σ A (e .0)) (e .1))
-      judges-next ws′ ws″ k j l circular i = λ σ A q. (let e = split σ A q in i σ (k .takes σ A (e .0)) (e .1))
-
-      next-does : y < n → w < n → size (G .tree y) < size (G .tree a) → (o : Verdict) (ws′ : Words) → Outcome ws (λ σ. σ x ≡ σ z) (o, ws′) → Does ws Same (next (unify n) y w o ws′)
-      unfolding next
-      next-does yl wl q unified ws′ h = exact-map (λ e k. kept-trans split (h .kept) k)
-          (λ o g. record { kept = kept-trans split (h .kept) (g .kept); judged = judges-next ws′ (o .1) (h .kept) (h .judged) (g .kept) (o .0) (g .judged) })
-          (right-after y w yl wl q ws′ (rw (h .kept .sized) s) (h .kept .good) (h .kept .moved))
-      next-does yl wl q mismatch ws′ h = exact-ret _ (mismatch, ws′) (record { kept = kept-map (λ σ A e. split σ A e .0) (h .kept); judged = λ σ A e. h .judged σ A (split σ A e .0) })
-      next-does yl wl q circular ws′ h = exact-ret _ (circular, ws′) (record { kept = kept-map (λ σ A e. split σ A e .0) (h .kept); judged = λ σ A e. h .judged σ A (split σ A e .0) })
+    next-does : (x y z w : ℕ) → nodeAt ws n a ≡ pair x y → nodeAt ws n b ≡ pair z w → y < n → w < n → size (G .tree y) < size (G .tree a) → (o : Verdict) (ws′ : Words) → Outcome ws (λ σ. σ x ≡ σ z) (o, ws′) → Does ws Same (next (unify n) y w o ws′)
+    unfolding next
+    next-does x y z w ea eb yl wl q unified ws′ h = exact-map (λ e k. kept-trans (split ws a b al bl x y z w ea eb) (h .kept) k) (λ o g. right-half ws a b al bl x y z w ea eb ws′ o h g)
+        (right-after y w yl wl q ws′ (rw (h .kept .sized) s) (h .kept .good) (h .kept .moved))
+    next-does x y z w ea eb yl wl q mismatch ws′ h = exact-ret _ (mismatch, ws′) (left-half ws a b al bl x y z w ea eb mismatch ws′ not-mismatch h)
+    next-does x y z w ea eb yl wl q circular ws′ h = exact-ret _ (circular, ws′) (left-half ws a b al bl x y z w ea eb circular ws′ not-circular h)
 
     left-free : nodeAt ws n a ≡ free → Root (nodeAt ws n b) → Does ws Same (assign ws n a b)
     left-free ea rb = assign-does ws s G a b al bl ea rb ne
@@ -229,7 +263,7 @@ module _ (n : ℕ) where
     meeting-does ra rb (pair x y) (power z) ea eb fa fb = clashes (pair x y) (power z) ea eb (λ σ u w e. (let z : _≡_ {A = ℕ} 0 1 = cc in omega arith))
     meeting-does ra rb (pair x y) (pair z w) ea eb fa fb =
         let t = ap size (fa .2) in
-        exact-bind (exact-map (λ e k. kept-map (λ σ A q. split x y z w ea eb σ A q .0) k) (λ o h. h) (rec x z (fa .0) (fb .0) (omega arith)))
+        exact-bind (exact-map (λ e k. kept-map (λ σ A q. split ws a b al bl x y z w ea eb σ A q .0) k) (λ o h. h) (rec x z (fa .0) (fb .0) (omega arith)))
         (λ o h. next-does x y z w ea eb (fa .1) (fb .1) (omega arith) (o .0) (o .1) h)
     meeting-does ra rb (pair x y) bad ea eb fa fb = absurd fb
     meeting-does ra rb bad nb ea eb fa fb = absurd fa

@@ -1,0 +1,564 @@
+-- How short the chains of bindings are.
+--
+-- `Ranked` says of an arena what ranks keep: along a binding from unknown to unknown the rank rises, and an unknown of rank r stands for 2^r of the n nodes or more.
+-- The empty arena is ranked, a node made keeps it (an unknown is made with rank 0), and so does every comparison that is answered or refused (`merge-ranked`, carried through by `unify-carries`).
+-- `follows-short`: there c bindings are followed from a reference only where 2^c ≤ 2 * n: with 2,048 nodes never more than 12, however long the chain of equalities.
+use Prim.Native.Nat.{ℕ, zero, suc, _+_, _-_, _*_, _≤_, _<_}
+use mathlib.Core.Path.{_≡_, refl, sym, _∙_, ap, subst}
+use mathlib.Core.Logic.{_≢_}
+use mathlib.Core.Bool.{Bool, true, false, _&&_}
+use mathlib.Core.List.{List, [], _∷_}
+use native.Mathlib.Omega.{arith}
+use native.Mathlib.Decide.{ℕ-discrete, decLt}
+use lib.Dec.{eqb, ltb}
+use lib.ListN.{length, getD, set, length-set}
+use lib.Seq.{getD-set-same, getD-set-other}
+use borrow.Author.Tests.{eq-eqb, ne-eqb, eqb-true, eqb-false, lt-ltb, le-ltb, ltb-true, ltb-false}
+use Rattle.meter.specs.Meter.{Out, spent, halt, done, M, ret, fail, tick, on, forgetE}
+use Rattle.unification.specs.Arena.{Node, free, link, leaf, power, pair, bad, decode, Words, nodeAt, bindAt, unknown, rankAt, either, below, level, raised, mergeAt, U, follow, resolve, Answer, unify}
+use Rattle.unification.specs.Steps.{resolve-eq}
+use Rattle.unification.specs.Trees.{and-left, and-right}
+use Rattle.unification.specs.Good.{Root, Inside, pushAt, word-other, node-push-new, node-push-old, push-word, push-second, length-push}
+use Rattle.unification.specs.Merge.{Binds, below-free, level-free, left-binds, right-binds, length-merge}
+use Rattle.unification.specs.Laws.{after, Reached, empty, made, called, reached-whole}
+use Rattle.unification.specs.Carry.{unify-carries}
+use Rattle.unification.specs.Ops.{Op, pay, make, compare, list, Bench, grow, learn, complain, exec, nodes, Sound}
+use Rattle.unification.specs.Exec.{exec-nil, exec-unpaid, exec-paid, exec-made, exec-no-room, exec-compared, exec-listed}
+use Rattle.unification.specs.ByRule.{End, ends, Follows, at-root, outside, along}
+
+-- ---- powers of two, and sums
+unfoldable pub two : ℕ → ℕ
+two zero = 1
+two (suc k) = 2 * two k
+
+two-next : (k : ℕ) → two (suc k) ≡ 2 * two k
+unfolding two
+two-next k = refl
+
+two-up : (d k j : ℕ) → d + k ≡ j → two k ≤ two j
+two-up zero k j e = let q : k ≡ j = omega arith in let h : two k ≡ two j = ap two q in omega arith
+two-up (suc d) k zero e = absurd (omega arith)
+two-up (suc d) k (suc j) e = let h = two-up d k j (omega arith) in let q = two-next j in omega arith
+
+two-mono : (a b : ℕ) → a ≤ b → two a ≤ two b
+two-mono a b l = two-up (b - a) a b (omega arith)
+
+two-pos : (k : ℕ) → 1 ≤ two k
+unfolding two
+two-pos zero = omega arith
+two-pos (suc k) = let h = two-pos k in omega arith
+
+unfoldable pub sum : (ℕ → ℕ) → ℕ → ℕ
+sum f zero = 0
+sum f (suc k) = f k + sum f k
+
+sum-same : (f g : ℕ → ℕ) (k : ℕ) → ((z : ℕ) → z < k → g z ≡ f z) → sum g k ≡ sum f k
+unfolding sum
+sum-same f g zero h = refl
+sum-same f g (suc k) h = let p = h k (omega arith) in let q = sum-same f g k (λ z l. h z (omega arith)) in omega arith
+
+module _ (f g : ℕ → ℕ) (x : ℕ) (h : (z : ℕ) → z ≢ x → g z ≡ f z) where
+  sum-step : (k : ℕ) → x < suc k → (x < k → sum g k + f x ≡ sum f k + g x) → Dec (k ≡ x) → sum g (suc k) + f x ≡ sum f (suc k) + g x
+  unfolding sum
+  sum-step k l ih (yes e) =
+      let p : g k ≡ g x = ap g e in
+      let q : f k ≡ f x = ap f e in
+      let r = sum-same f g k (λ z zl. h z (λ (w : z ≡ x). omega arith)) in
+      omega arith
+  sum-step k l ih (no e) = let p = h k e in let q = ih (omega arith) in omega arith
+
+  -- one summand changed
+  sum-one : (k : ℕ) → x < k → sum g k + f x ≡ sum f k + g x
+  sum-one zero l = absurd (omega arith)
+  sum-one (suc k) l = sum-step k l (sum-one k) (ℕ-discrete k x)
+
+abbrev pickℕ : Bool → ℕ → ℕ → ℕ
+pickℕ true a b = a
+pickℕ false a b = b
+
+-- x's share goes to y, or is lost
+module _ (f g : ℕ → ℕ) (x y k : ℕ) (xl : x < k) (yl : y < k) (ne : x ≢ y) (gx : g x ≡ 0) (gy : g y ≤ f x + f y) (h : (z : ℕ) → z ≢ x → z ≢ y → g z ≡ f z) where
+  mid : ℕ → ℕ
+  mid z = pickℕ (eqb z x) 0 (f z)
+
+  mid-x : mid x ≡ 0
+  unfolding mid
+  mid-x = ap (λ c. pickℕ c 0 (f x)) (eq-eqb x x refl)
+
+  mid-other : (z : ℕ) → z ≢ x → mid z ≡ f z
+  unfolding mid
+  mid-other z q = ap (λ c. pickℕ c 0 (f z)) (ne-eqb z x q)
+
+  from-mid : (z : ℕ) → z ≢ y → Dec (z ≡ x) → g z ≡ mid z
+  from-mid z q (yes e) = ap g e ∙ gx ∙ sym (ap mid e ∙ mid-x)
+  from-mid z q (no e) = h z e q ∙ sym (mid-other z e)
+
+  sum-moved : sum g k ≤ sum f k
+  sum-moved =
+      let p = sum-one f mid x mid-other k xl in
+      let q = sum-one mid g y (λ z e. from-mid z e (ℕ-discrete z x)) k yl in
+      let r = mid-x in
+      let s = mid-other y (λ e. ne (sym e)) in
+      omega arith
+
+-- ---- the invariant
+abbrev Var : Node → Type 0
+Var free = Unit {0}
+Var (link j) = Unit {0}
+Var (leaf p) = ⊥
+Var (power a) = ⊥
+Var (pair a b) = ⊥
+Var bad = ⊥
+
+unfoldable pub share : Node → ℕ → ℕ
+share free k = k
+share (link j) k = 0
+share (leaf p) k = 0
+share (power a) k = 0
+share (pair a b) k = 0
+share bad k = 0
+
+abbrev Stood : ℕ → Words → (ℕ → ℕ) → ℕ → Node → Type 0
+Stood n ws m x free = two (rankAt ws x) ≤ m x
+Stood n ws m x (link j) = (j < n) × (two (rankAt ws x) ≤ n) × (Var (nodeAt ws n j) → rankAt ws x < rankAt ws j)
+Stood n ws m x (leaf p) = Unit {0}
+Stood n ws m x (power a) = Unit {0}
+Stood n ws m x (pair a b) = Unit {0}
+Stood n ws m x bad = Unit {0}
+
+pub record Ranked (n : ℕ) (ws : Words) : Type 0 where
+  pub mass : ℕ → ℕ
+  pub stood : (x : ℕ) → x < n → Stood n ws mass x (nodeAt ws n x)
+  pub held : sum (λ x. share (nodeAt ws n x) (mass x)) n ≤ n
+
+-- an unbound unknown has no more than there is
+module _ (n : ℕ) (ws : Words) (R : Ranked n ws) where
+  part : (x : ℕ) → x < n → nodeAt ws n x ≡ free → R .mass x ≤ n
+  unfolding share
+  part x l e =
+      let f : ℕ → ℕ = λ z. share (nodeAt ws n z) (R .mass z) in
+      let g : ℕ → ℕ = λ z. pickℕ (eqb z x) 0 (f z) in
+      let p = sum-one f g x (λ z q. ap (λ c. pickℕ c 0 (f z)) (ne-eqb z x q)) n l in
+      let q : g x ≡ 0 = ap (λ c. pickℕ c 0 (f x)) (eq-eqb x x refl) in
+      let r : f x ≡ R .mass x = ap (λ (k : Node). share k (R .mass x)) e in
+      let s = R .held in
+      omega arith
+
+  stood-free : (x : ℕ) → x < n → nodeAt ws n x ≡ free → two (rankAt ws x) ≤ R .mass x
+  stood-free x l e = subst (λ (k : Node). Stood n ws (R .mass) x k) e (R .stood x l)
+
+  stood-link : (x j : ℕ) → x < n → nodeAt ws n x ≡ link j → (j < n) × (two (rankAt ws x) ≤ n) × (Var (nodeAt ws n j) → rankAt ws x < rankAt ws j)
+  stood-link x j l e = subst (λ (k : Node). Stood n ws (R .mass) x k) e (R .stood x l)
+
+-- ---- one binding, of the unknown x to y; only the rank of y may have risen
+module _ (n : ℕ) (ws ws′ : Words) (R : Ranked n ws) (x y : ℕ) (xl : x < n) (yl : y < n) (ne : x ≢ y) (fx : nodeAt ws n x ≡ free) (ry : Root (nodeAt ws n y)) (B : Binds n ws x y ws′)
+    (same : (z : ℕ) → z ≢ y → rankAt ws′ z ≡ rankAt ws z) (rise : rankAt ws y ≤ rankAt ws′ y)
+    (up : nodeAt ws n y ≡ free → rankAt ws x < rankAt ws′ y) (enough : nodeAt ws n y ≡ free → two (rankAt ws′ y) ≤ R .mass x + R .mass y) where
+  mass′ : ℕ → ℕ
+  mass′ z = pickℕ (eqb z y) (R .mass x + R .mass y) (R .mass z)
+
+  mass-y : mass′ y ≡ R .mass x + R .mass y
+  unfolding mass′
+  mass-y = ap (λ c. pickℕ c (R .mass x + R .mass y) (R .mass y)) (eq-eqb y y refl)
+
+  mass-other : (z : ℕ) → z ≢ y → mass′ z ≡ R .mass z
+  unfolding mass′
+  mass-other z h = ap (λ c. pickℕ c (R .mass x + R .mass y) (R .mass z)) (ne-eqb z y h)
+
+  rises : (z : ℕ) → Dec (z ≡ y) → rankAt ws z ≤ rankAt ws′ z
+  rises z (yes e) = subst (λ (k : ℕ). rankAt ws k ≤ rankAt ws′ k) (sym e) rise
+  rises z (no e) = let h = same z e in omega arith
+
+  -- what is an unknown now, bound or not, was one
+  was-var : (z : ℕ) → Dec (z ≡ x) → Var (nodeAt ws′ n z) → Var (nodeAt ws n z)
+  was-var z (yes e) v = subst (λ (k : Node). Var k) (sym (ap (nodeAt ws n) e ∙ fx)) tt
+  was-var z (no e) v = subst (λ (k : Node). Var k) (B .there z e) v
+
+  root-var : (nd : Node) → Root nd → Var nd → nd ≡ free
+  root-var free r v = refl
+  root-var (link j) r v = absurd r
+  root-var (leaf p) r v = absurd v
+  root-var (power a) r v = absurd v
+  root-var (pair a b) r v = absurd v
+  root-var bad r v = absurd r
+
+  at-y : (nd : Node) → Root nd → nodeAt ws n y ≡ nd → Stood n ws′ mass′ y nd
+  at-y free r e = let h = enough e in let m = mass-y in omega arith
+  at-y (link j) r e = absurd r
+  at-y (leaf p) r e = tt
+  at-y (power a) r e = tt
+  at-y (pair a b) r e = tt
+  at-y bad r e = tt
+
+  at-other : (z : ℕ) → z ≢ y → (nd : Node) → Stood n ws (R .mass) z nd → Stood n ws′ mass′ z nd
+  at-other z h free s = let m = mass-other z h in let r = ap two (same z h) in omega arith
+  at-other z h (link j) s =
+      let r = ap two (same z h) in
+      let q = same z h in
+      let l = s .1 in
+      let w = s .2 in
+      (s .0, omega arith, λ v. (let a = w (was-var j (ℕ-discrete j x) v) in let b = rises j (ℕ-discrete j y) in omega arith))
+  at-other z h (leaf p) s = tt
+  at-other z h (power a) s = tt
+  at-other z h (pair a b) s = tt
+  at-other z h bad s = tt
+
+  at-x : Stood n ws′ mass′ x (link y)
+  at-x =
+      let r = ap two (same x ne) in
+      let q = same x ne in
+      let f = stood-free n ws R x xl fx in
+      let g = part n ws R x xl fx in
+      (yl, omega arith, λ v. (let a = up (root-var (nodeAt ws n y) ry (was-var y (ℕ-discrete y x) v)) in omega arith))
+
+  stood′ : (z : ℕ) → z < n → Dec (z ≡ x) → Dec (z ≡ y) → Stood n ws′ mass′ z (nodeAt ws′ n z)
+  stood′ z l (yes e) d = subst (λ (k : ℕ). Stood n ws′ mass′ k (nodeAt ws′ n k)) (sym e) (subst (λ (k : Node). Stood n ws′ mass′ x k) (sym (B .here)) at-x)
+  stood′ z l (no h) (yes e) = subst (λ (k : ℕ). Stood n ws′ mass′ k (nodeAt ws′ n k)) (sym e)
+      (subst (λ (k : Node). Stood n ws′ mass′ y k) (sym (B .there y (λ q. ne (sym q)))) (at-y (nodeAt ws n y) ry refl))
+  stood′ z l (no h) (no g) = subst (λ (k : Node). Stood n ws′ mass′ z k) (sym (B .there z h)) (at-other z g (nodeAt ws n z) (R .stood z l))
+
+  shared-y : (nd : Node) → share nd (mass′ y) ≤ R .mass x + share nd (R .mass y)
+  unfolding share
+  shared-y free = let m = mass-y in omega arith
+  shared-y (link j) = omega arith
+  shared-y (leaf p) = omega arith
+  shared-y (power a) = omega arith
+  shared-y (pair a b) = omega arith
+  shared-y bad = omega arith
+
+  held′ : sum (λ z. share (nodeAt ws′ n z) (mass′ z)) n ≤ n
+  unfolding share
+  held′ =
+      let e = B .there y (λ q. ne (sym q)) in
+      let fx′ : share (nodeAt ws n x) (R .mass x) ≡ R .mass x = ap (λ (k : Node). share k (R .mass x)) fx in
+      let gx : share (nodeAt ws′ n x) (mass′ x) ≡ 0 = ap (λ (k : Node). share k (mass′ x)) (B .here) in
+      let gy : share (nodeAt ws′ n y) (mass′ y) ≡ share (nodeAt ws n y) (mass′ y) = ap (λ (k : Node). share k (mass′ y)) e in
+      let p = shared-y (nodeAt ws n y) in
+      let q = sum-moved (λ z. share (nodeAt ws n z) (R .mass z)) (λ z. share (nodeAt ws′ n z) (mass′ z)) x y n xl yl ne gx (omega arith)
+      (λ z h g. ap (λ (k : Node). share k (mass′ z)) (B .there z h) ∙ ap (share (nodeAt ws n z)) (mass-other z g)) in
+      let r = R .held in
+      omega arith
+
+  bound-ranked : Ranked n ws′
+  bound-ranked = record { mass = mass′; stood = λ z l. stood′ z l (ℕ-discrete z x) (ℕ-discrete z y); held = held′ }
+
+-- ---- a merge
+module _ (ws : Words) (x y : ℕ) where
+  bind-rank : (z : ℕ) → rankAt (bindAt ws x y) z ≡ rankAt ws z
+  unfolding rankAt
+  bind-rank z = word-other ws x y (3 * z + 2) (λ e. omega arith) (λ e. omega arith)
+
+module _ (n : ℕ) (ws : Words) (v t : ℕ) where
+  below-less : below ws n v t ≡ true → rankAt ws t < rankAt ws v
+  unfolding below
+  below-less e = ltb-true (rankAt ws t) (rankAt ws v) (and-right (unknown (nodeAt ws n t)) (ltb (rankAt ws t) (rankAt ws v)) e)
+
+  not-below : below ws n v t ≡ false → nodeAt ws n t ≡ free → rankAt ws v ≤ rankAt ws t
+  unfolding below unknown
+  not-below e f = ltb-false (rankAt ws t) (rankAt ws v) (sym (ap (λ (k : Node). unknown k && ltb (rankAt ws t) (rankAt ws v)) f) ∙ e)
+
+  level-same : level ws n v t ≡ true → rankAt ws t ≡ rankAt ws v
+  unfolding level
+  level-same e = eqb-true (rankAt ws t) (rankAt ws v)
+      (and-left (eqb (rankAt ws t) (rankAt ws v)) (ltb (rankAt ws t) 32) (and-right (unknown (nodeAt ws n t)) (eqb (rankAt ws t) (rankAt ws v) && ltb (rankAt ws t) 32) e))
+
+  not-both : (a b : Bool) → a && b ≡ false → b ≡ true → a ≡ false
+  not-both true true e h = e
+  not-both true false e h = cc
+  not-both false b e h = refl
+
+  not-level : level ws n v t ≡ false → nodeAt ws n t ≡ free → rankAt ws t < 32 → rankAt ws t ≢ rankAt ws v
+  unfolding level unknown
+  not-level e f l = eqb-false (rankAt ws t) (rankAt ws v)
+      (not-both (eqb (rankAt ws t) (rankAt ws v)) (ltb (rankAt ws t) 32) (sym (ap (λ (k : Node). unknown k && (eqb (rankAt ws t) (rankAt ws v) && ltb (rankAt ws t) 32)) f) ∙ e) (lt-ltb (rankAt ws t) 32 l))
+
+module _ (n : ℕ) (small : n < two 32) (ws : Words) (s : 3 * n ≤ length ws) (R : Ranked n ws) (v t : ℕ) (vl : v < n) (tl : t < n) (ne : v ≢ t) (fr : nodeAt ws n v ≡ free) (root : Root (nodeAt ws n t)) where
+  few : nodeAt ws n t ≡ free → rankAt ws t < 32
+  few e = at (decLt (rankAt ws t) 32)
+    where
+      at : Dec (rankAt ws t < 32) → rankAt ws t < 32
+      at (yes l) = l
+      at (no l) =
+          let p = two-mono 32 (rankAt ws t) (omega arith) in
+          let q = stood-free n ws R t tl e in
+          let r = part n ws R t tl e in
+          absurd (omega arith)
+
+  to-the-left : below ws n v t ≡ true → Ranked n (bindAt ws t v)
+  to-the-left e =
+      let f = below-free ws n v t e in
+      let l = below-less n ws v t e in
+      let q = bind-rank ws t v v in
+      let m = stood-free n ws R v vl fr in
+      let r = ap two q in
+      bound-ranked n ws (bindAt ws t v) R t v tl vl (λ z. ne (sym z)) f (subst (λ (k : Node). Root k) (sym fr) tt) (left-binds ws n v t s vl tl)
+      (λ z h. bind-rank ws t v z) (omega arith) (λ _. omega arith) (λ _. omega arith)
+
+  risen : rankAt (set ws (3 * t + 2) (suc (rankAt ws t))) t ≡ suc (rankAt ws t)
+  unfolding rankAt
+  risen = getD-set-same ws (3 * t + 2) (suc (getD ws (3 * t + 2) 0)) 0 (omega arith)
+
+  unrisen : (z : ℕ) → z ≢ t → rankAt (set ws (3 * t + 2) (suc (rankAt ws t))) z ≡ rankAt ws z
+  unfolding rankAt
+  unrisen z h = getD-set-other ws (3 * t + 2) (3 * z + 2) (suc (getD ws (3 * t + 2) 0)) 0 (λ e. h (omega arith))
+
+  -- the words that the right unknown's rank may have risen in
+  to-the-right-at : below ws n v t ≡ false → (c : Bool) → level ws n v t ≡ c → (us : Words) → us ≡ either c (set ws (3 * t + 2) (suc (rankAt ws t))) ws → Binds n ws v t (bindAt us v t) → Ranked n (bindAt us v t)
+  to-the-right-at e true g us u B =
+      let f = level-free ws n v t g in
+      let w = level-same n ws v t g in
+      let q : rankAt (bindAt us v t) t ≡ suc (rankAt ws t) = bind-rank us v t t ∙ ap (λ (k : Words). rankAt k t) u ∙ risen in
+      let m = stood-free n ws R v vl fr in
+      let m′ = stood-free n ws R t tl f in
+      let p = ap two q in
+      let p′ = two-next (rankAt ws t) in
+      let p″ = ap two w in
+      bound-ranked n ws (bindAt us v t) R v t vl tl ne fr root B
+      (λ z h. bind-rank us v t z ∙ ap (λ (k : Words). rankAt k z) u ∙ unrisen z h) (omega arith) (λ _. omega arith) (λ _. omega arith)
+  to-the-right-at e false g us u B =
+      let q : rankAt (bindAt us v t) t ≡ rankAt ws t = bind-rank us v t t ∙ ap (λ (k : Words). rankAt k t) u in
+      let p = ap two q in
+      bound-ranked n ws (bindAt us v t) R v t vl tl ne fr root B
+      (λ z h. bind-rank us v t z ∙ ap (λ (k : Words). rankAt k z) u) (omega arith)
+      (λ f. (let a = not-below n ws v t e f in let b = not-level n ws v t g f (few f) in omega arith))
+      (λ f. (let m = stood-free n ws R t tl f in omega arith))
+
+  merge-ranked-at : (c : Bool) → below ws n v t ≡ c → Ranked n (either c (bindAt ws t v) (bindAt (raised ws n v t) v t))
+  unfolding raised
+  merge-ranked-at true e = to-the-left e
+  merge-ranked-at false e = to-the-right-at e (level ws n v t) refl (raised ws n v t) refl (right-binds ws n v t s vl tl)
+
+  pub merge-ranked : Ranked n (mergeAt ws n v t)
+  unfolding mergeAt
+  merge-ranked = merge-ranked-at (below ws n v t) refl
+
+-- ---- a node made: an unknown with rank 0
+module _ (n : ℕ) (ws : Words) (k a b : ℕ) (s : 3 * suc n ≤ length ws) (i : Inside n (decode k a b)) (zeroed : decode k a b ≡ free → b ≡ 0) (R : Ranked n ws) where
+  abbrev ws″ : Words
+  ws″ = pushAt ws n k a b
+
+  massN : ℕ → ℕ
+  massN z = pickℕ (eqb z n) 1 (R .mass z)
+
+  massN-new : massN n ≡ 1
+  unfolding massN
+  massN-new = ap (λ c. pickℕ c 1 (R .mass n)) (eq-eqb n n refl)
+
+  massN-old : (z : ℕ) → z < n → massN z ≡ R .mass z
+  unfolding massN
+  massN-old z l = ap (λ c. pickℕ c 1 (R .mass z)) (ne-eqb z n (λ e. omega arith))
+
+  rank-old : (z : ℕ) → z < n → rankAt ws″ z ≡ rankAt ws z
+  unfolding rankAt
+  rank-old z l = push-word ws n k a b (3 * z + 2) (omega arith)
+
+  rank-new : rankAt ws″ n ≡ b
+  unfolding rankAt
+  rank-new = push-second ws n k a b s
+
+  old-stood : (z : ℕ) → z < n → (nd : Node) → Stood n ws (R .mass) z nd → Stood (suc n) ws″ massN z nd
+  old-stood z l free h = let m = massN-old z l in let r = ap two (rank-old z l) in omega arith
+  old-stood z l (link j) h =
+      let jl = h .0 in
+      let q = h .1 in
+      let w = h .2 in
+      let r = ap two (rank-old z l) in
+      let r′ = rank-old z l in
+      let r″ = rank-old j jl in
+      (omega arith, omega arith, λ v. (let g = w (subst (λ (c : Node). Var c) (node-push-old ws n k a b s j jl) v) in omega arith))
+  old-stood z l (leaf p) h = tt
+  old-stood z l (power x) h = tt
+  old-stood z l (pair x y) h = tt
+  old-stood z l bad h = tt
+
+  new-stood : (nd : Node) → decode k a b ≡ nd → Inside n nd → Stood (suc n) ws″ massN n nd
+  unfolding two
+  new-stood free e j = let m = massN-new in let r : two (rankAt ws″ n) ≡ two 0 = ap two (rank-new ∙ zeroed e) in omega arith
+  new-stood (link x) e j = absurd j
+  new-stood (leaf p) e j = tt
+  new-stood (power x) e j = tt
+  new-stood (pair x y) e j = tt
+  new-stood bad e j = tt
+
+  stoodN : (z : ℕ) → z < suc n → Dec (z ≡ n) → Stood (suc n) ws″ massN z (nodeAt ws″ (suc n) z)
+  stoodN z l (yes e) = subst (λ (y : ℕ). Stood (suc n) ws″ massN y (nodeAt ws″ (suc n) y)) (sym e)
+      (subst (λ (c : Node). Stood (suc n) ws″ massN n c) (sym (node-push-new ws n k a b s)) (new-stood (decode k a b) refl i))
+  stoodN z l (no h) = let q : z < n = omega arith in subst (λ (c : Node). Stood (suc n) ws″ massN z c) (sym (node-push-old ws n k a b s z q)) (old-stood z q (nodeAt ws n z) (R .stood z q))
+
+  share-le : (nd : Node) (m : ℕ) → share nd m ≤ m
+  unfolding share
+  share-le free m = omega arith
+  share-le (link j) m = omega arith
+  share-le (leaf p) m = omega arith
+  share-le (power x) m = omega arith
+  share-le (pair x y) m = omega arith
+  share-le bad m = omega arith
+
+  heldN : sum (λ z. share (nodeAt ws″ (suc n) z) (massN z)) (suc n) ≤ suc n
+  unfolding sum
+  heldN =
+      let p = sum-same (λ z. share (nodeAt ws n z) (R .mass z)) (λ z. share (nodeAt ws″ (suc n) z) (massN z)) n
+      (λ z l. ap (λ (c : Node). share c (massN z)) (node-push-old ws n k a b s z l) ∙ ap (share (nodeAt ws n z)) (massN-old z l)) in
+      let q = share-le (nodeAt ws″ (suc n) n) (massN n) in
+      let r = massN-new in
+      let w = R .held in
+      omega arith
+
+  pub made-ranked : Ranked (suc n) ws″
+  made-ranked = record { mass = massN; stood = λ z l. stoodN z l (ℕ-discrete z n); held = heldN }
+
+-- ---- every arena reached, if its unknowns were made with rank 0, as the makers make them
+abbrev pub Zeroed : {n : ℕ} {ws : Words} → Reached n ws → Type 0
+Zeroed (empty ws) = Unit {0}
+Zeroed (made k a b i s r) = Zeroed r × (decode k a b ≡ free → b ≡ 0)
+Zeroed (called a b β r) = Zeroed r
+
+abbrev Kept : ℕ → Words → Type 0
+Kept n ws = (3 * n ≤ length ws) × Ranked n ws
+
+pub reached-ranked : {n : ℕ} {ws : Words} (H : Reached n ws) → Zeroed H → n < two 32 → Ranked n ws
+unfolding sum
+reached-ranked (empty ws) z l = record { mass = λ x. 0; stood = λ x q. absurd (omega arith); held = omega arith }
+reached-ranked (made {n = n} {ws = ws} k a b i s r) z l = made-ranked n ws k a b s i (z .1) (reached-ranked r (z .0) (omega arith))
+reached-ranked (called {n = n} {ws = ws} a b β r) z l =
+    unify-carries n (λ us. Kept n us)
+    (λ us h v t vl tl ne fr root. (rw (length-merge us n v t) (h .0), merge-ranked n l us (h .0) (h .1) v t vl tl ne fr root))
+    ws (reached-whole r .0, reached-ranked r z l) a b β .1
+
+-- ---- how far a reference is from its end
+module _ (n : ℕ) (ws : Words) (R : Ranked n ws) where
+  abbrev Chain : ℕ → ℕ → Node → Type 0
+  Chain t c free = two (rankAt ws t + c) ≤ 2 * n
+  Chain t c (link j) = two (rankAt ws t + c) ≤ 2 * n
+  Chain t c (leaf p) = c ≡ 0
+  Chain t c (power x) = c ≡ 0
+  Chain t c (pair x y) = c ≡ 0
+  Chain t c bad = c ≡ 0
+
+  at-end : (t : ℕ) → t < n → (nd : Node) → nodeAt ws n t ≡ nd → Root nd → Chain t 0 nd
+  at-end t l free e q =
+      let p = stood-free n ws R t l e in
+      let r = part n ws R t l e in
+      let z : rankAt ws t + 0 ≡ rankAt ws t = omega arith in
+      let w = ap two z in
+      omega arith
+  at-end t l (link j) e q = absurd q
+  at-end t l (leaf p) e q = refl
+  at-end t l (power x) e q = refl
+  at-end t l (pair x y) e q = refl
+  at-end t l bad e q = absurd q
+
+  -- one binding more
+  further : (t j c : ℕ) → two (rankAt ws t) ≤ n → (nd : Node) → (Var nd → rankAt ws t < rankAt ws j) → Chain j c nd → two (rankAt ws t + suc c) ≤ 2 * n
+  further t j c l free up h = let q = up tt in let m = two-mono (rankAt ws t + suc c) (rankAt ws j + c) (omega arith) in omega arith
+  further t j c l (link x) up h = let q = up tt in let m = two-mono (rankAt ws t + suc c) (rankAt ws j + c) (omega arith) in omega arith
+  further t j c l (leaf p) up h = last t c l h
+    where
+      last : (t c : ℕ) → two (rankAt ws t) ≤ n → c ≡ 0 → two (rankAt ws t + suc c) ≤ 2 * n
+      last t c l h = let e : rankAt ws t + suc c ≡ suc (rankAt ws t) = omega arith in let w = ap two e in let z = two-next (rankAt ws t) in omega arith
+  further t j c l (power x) up h = let e : rankAt ws t + suc c ≡ suc (rankAt ws t) = omega arith in let w = ap two e in let z = two-next (rankAt ws t) in omega arith
+  further t j c l (pair x y) up h = let e : rankAt ws t + suc c ≡ suc (rankAt ws t) = omega arith in let w = ap two e in let z = two-next (rankAt ws t) in omega arith
+  further t j c l bad up h = let e : rankAt ws t + suc c ≡ suc (rankAt ws t) = omega arith in let w = ap two e in let z = two-next (rankAt ws t) in omega arith
+
+  chained : {t c : ℕ} {e : End (ℕ × Node)} → t < n → Follows ws n t e c → Chain t c (nodeAt ws n t)
+  chained l (at-root {t} {nd} e q) = subst (λ (k : Node). Chain t 0 k) (sym e) (at-end t l nd e q)
+  chained l (outside {t} e) = subst (λ (k : Node). Chain t 0 k) (sym e) refl
+  chained l (along {t} {j} {c} e f) =
+      let w = stood-link n ws R t j l e in
+      subst (λ (k : Node). Chain t (suc c) k) (sym e) (further t j c (w .1) (nodeAt ws n j) (w .2) (chained (w .0) f))
+
+  bounded : (t c : ℕ) → t < n → (nd : Node) → Chain t c nd → two c ≤ 2 * n
+  unfolding two
+  bounded t c l free h = let m = two-mono c (rankAt ws t + c) (omega arith) in omega arith
+  bounded t c l (link j) h = let m = two-mono c (rankAt ws t + c) (omega arith) in omega arith
+  bounded t c l (leaf p) h = let m : two c ≡ two 0 = ap two h in omega arith
+  bounded t c l (power x) h = let m : two c ≡ two 0 = ap two h in omega arith
+  bounded t c l (pair x y) h = let m : two c ≡ two 0 = ap two h in omega arith
+  bounded t c l bad h = let m : two c ≡ two 0 = ap two h in omega arith
+
+  -- c bindings are followed from t only where 2^c ≤ 2 * n
+  pub follows-short : {t c : ℕ} {e : End (ℕ × Node)} → t < n → Follows ws n t e c → two c ≤ 2 * n
+  follows-short {t} {c} l f = bounded t c l (nodeAt ws n t) (chained l f)
+
+  -- what resolve pays, as bindings followed
+  abbrev Walked : ℕ → ℕ → ℕ → Type 0
+  Walked t β r = (c : ℕ) × (c + r ≡ β) × ((o : ℕ × Node) × Follows ws n t (ends o) c)
+
+  walked-link : (t j β p r : ℕ) → nodeAt ws n t ≡ link j → ((b : ℕ) → suc b ≡ β → resolve ws n j b ≡ done p r → Walked j b r) → tick tt (resolve ws n j) β ≡ done p r → Walked t β r
+  unfolding tick
+  walked-link t j zero p r e rec h = let z : _≡_ {A = ℕ} 0 1 = cc in absurd (omega arith)
+  walked-link t j (suc b) p r e rec h = let w = rec b refl h in let q = w .1 in (suc (w .0), omega arith, (w .2 .0, along e (w .2 .1)))
+
+  walked-root : (t β p r : ℕ) (nd : Node) → nodeAt ws n t ≡ nd → Root nd → _≡_ {A = Out U ℕ} (done t β) (done p r) → Walked t β r
+  walked-root t β p r nd e q h = let z : β ≡ r = cc in (0, omega arith, ((t, nd), at-root e q))
+
+  walked-node : (β p r t : ℕ) → ((b j : ℕ) → suc b ≡ β → resolve ws n j b ≡ done p r → Walked j b r) → (nd : Node) → nodeAt ws n t ≡ nd → follow (resolve ws n) t nd β ≡ done p r → Walked t β r
+  unfolding follow ret fail
+  walked-node β p r t rec free e h = walked-root t β p r free e tt h
+  walked-node β p r t rec (link j) e h = walked-link t j β p r e (λ b q. rec b j q) h
+  walked-node β p r t rec (leaf x) e h = walked-root t β p r (leaf x) e tt h
+  walked-node β p r t rec (power x) e h = walked-root t β p r (power x) e tt h
+  walked-node β p r t rec (pair x y) e h = walked-root t β p r (pair x y) e tt h
+  walked-node β p r t rec bad e h = let z : _≡_ {A = ℕ} 0 1 = cc in absurd (omega arith)
+
+  walked : (k β : ℕ) → β < k → (t p r : ℕ) → resolve ws n t β ≡ done p r → Walked t β r
+  walked zero β l t p r h = absurd (omega arith)
+  walked (suc k) β l t p r h = walked-node β p r t (λ b j q. walked k b (omega arith) j p r) (nodeAt ws n t) refl (sym (ap (λ (m : M U ℕ). m β) (resolve-eq ws n t)) ∙ h)
+
+  ranked-short : (t : ℕ) → t < n → (β p r : ℕ) → resolve ws n t β ≡ done p r → (c : ℕ) × (c + r ≡ β) × (two c ≤ 2 * n)
+  ranked-short t l β p r h = let w = walked (suc β) β (omega arith) t p r h in (w .0, w .1, follows-short l (w .2 .1))
+
+-- KEY: of every arena reached, with fewer than 2^32 nodes: to follow a reference costs c units only where 2^c ≤ 2 * n
+pub resolve-short : {n : ℕ} {ws : Words} (H : Reached n ws) → Zeroed H → n < two 32 → (t : ℕ) → t < n → (β p r : ℕ) → resolve ws n t β ≡ done p r → (c : ℕ) × (c + r ≡ β) × (two c ≤ 2 * n)
+resolve-short {n} {ws} H z l t tl β p r h = ranked-short n ws (reached-ranked H z l) t tl β p r h
+
+-- ---- a list of operations, whose unknowns are made with rank 0
+abbrev pub Plain : List Op → Type 0
+Plain [] = Unit {0}
+Plain (pay ∷ os) = Plain os
+Plain (make k a b ∷ os) = (decode k a b ≡ free → b ≡ 0) × Plain os
+Plain (compare a b p ∷ os) = Plain os
+Plain (list q p ∷ os) = Plain os
+
+abbrev pub Fine : Out U Bench → Type 0
+Fine (spent e) = Unit {0}
+Fine (halt w e) = Unit {0}
+Fine (done s r) = Ranked (s .count) (s .words)
+
+module _ (cap : ℕ) where
+  abbrev Ran : List Op → Type 0
+  Ran os = (s : Bench) → Sound (s .count) os → Plain os → s .count + nodes os < two 32 → 3 * cap ≤ length (s .words) → 3 * s .count ≤ length (s .words) → Ranked (s .count) (s .words) → (β : ℕ) → Fine (exec cap os s β)
+
+  ran-make : (k a b : ℕ) (os : List Op) → Ran os → (s : Bench) → Inside (s .count) (decode k a b) → Sound (suc (s .count)) os → (decode k a b ≡ free → b ≡ 0) → Plain os → suc (s .count) + nodes os < two 32
+      → 3 * cap ≤ length (s .words) → Ranked (s .count) (s .words) → (β : ℕ) → Dec (s .count < cap) → Fine (exec cap (make k a b ∷ os) s β)
+  unfolding grow
+  ran-make k a b os rec s i so z pl l room R β (yes q) =
+      let e = length-push (s .words) (s .count) k a b in
+      subst (λ (o : Out U Bench). Fine o) (sym (exec-made cap s os k a b q β))
+      (rec (grow s k a b) so pl l (omega arith) (omega arith) (made-ranked (s .count) (s .words) k a b (omega arith) i z R) β)
+  ran-make k a b os rec s i so z pl l room R β (no q) = subst (λ (o : Out U Bench). Fine o) (sym (exec-no-room cap s os k a b (omega arith) β)) tt
+
+  abbrev Same : ℕ → Words → Words → Type 0
+  Same n ws us = (length us ≡ length ws) × Ranked n us
+
+  compared : (n : ℕ) → n < two 32 → (ws : Words) → 3 * n ≤ length ws → Ranked n ws → (a b β : ℕ) → Same n ws (after (unify n (ws, a, b) β))
+  compared n l ws s R a b β = unify-carries n (λ us. Same n ws us)
+      (λ us h v t vl tl ne fr root. (length-merge us n v t ∙ h .0, merge-ranked n l us (rw (h .0) s) (h .1) v t vl tl ne fr root)) ws (refl, R) a b β
+
+  ran-on : (p : ℕ) (os : List Op) → Ran os → (s : Bench) → Sound (s .count) os → Plain os → s .count + nodes os < two 32 → 3 * cap ≤ length (s .words) → 3 * s .count ≤ length (s .words)
+      → (o : Out Words Answer) → Same (s .count) (s .words) (after o) → Fine (on (forgetE o) (λ x. exec cap os (learn s p x)))
+  unfolding on forgetE after learn
+  ran-on p os rec s so pl l room fits (spent e) h = tt
+  ran-on p os rec s so pl l room fits (halt w e) h = tt
+  ran-on p os rec s so pl l room fits (done x r) h = rec (learn s p x) so pl l (rw (h .0) room) (rw (h .0) fits) (h .1) r
+
+  pub exec-ranked : (os : List Op) → Ran os
+  unfolding complain
+  exec-ranked [] s so pl l room fits R β = subst (λ (o : Out U Bench). Fine o) (sym (exec-nil cap s β)) R
+  exec-ranked (pay ∷ os) s so pl l room fits R zero = subst (λ (o : Out U Bench). Fine o) (sym (exec-unpaid cap s os)) tt
+  exec-ranked (pay ∷ os) s so pl l room fits R (suc β) = subst (λ (o : Out U Bench). Fine o) (sym (exec-paid cap s os β)) (exec-ranked os s so pl l room fits R β)
+  exec-ranked (make k a b ∷ os) s so pl l room fits R β = ran-make k a b os (exec-ranked os) s (so .0) (so .1) (pl .0) (pl .1) (omega arith) room R β (decLt (s .count) cap)
+  exec-ranked (compare a b p ∷ os) s so pl l room fits R β =
+      subst (λ (o : Out U Bench). Fine o) (sym (exec-compared cap s os a b p β))
+      (ran-on p os (exec-ranked os) s (so .2) pl l room fits (unify (s .count) (s .words, a, b) β) (compared (s .count) (omega arith) (s .words) fits R a b β))
+  exec-ranked (list q p ∷ os) s so pl l room fits R β = subst (λ (o : Out U Bench). Fine o) (sym (exec-listed cap s os q p β)) (exec-ranked os (complain s q p) so pl l room fits R β)
