@@ -22,5 +22,8 @@ pub mod Histories
 pub mod ByRule
 pub mod Carry
 pub mod Short
+pub mod Shapes
+pub mod Direction
+pub mod Runs
 pub mod Lift
 mod Cases

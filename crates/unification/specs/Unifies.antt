@@ -19,7 +19,7 @@ use Rattle.unification.specs.Merge.{Binds, Merged, to-right, to-left, me
 use Rattle.unification.specs.Steps.{unify-eq}
 use Rattle.unification.specs.Readers.{Rooted, resolve-exact, occurs-exact}
 
-same-atom : (p q : Atom) → sameAtom p q ≡ true → p ≡ q
+pub same-atom : (p q : Atom) → sameAtom p q ≡ true → p ≡ q
 unfolding sameAtom
 same-atom bool bool e = refl
 same-atom bool int e = cc
@@ -31,7 +31,7 @@ same-atom (given x) bool e = cc
 same-atom (given x) int e = cc
 same-atom (given x) (given y) e = ap given (eqb-true x y e)
 
-other-atom : (p q : Atom) → sameAtom p q ≡ false → p ≢ q
+pub other-atom : (p q : Atom) → sameAtom p q ≡ false → p ≢ q
 unfolding sameAtom
 other-atom bool bool h e = let z : _≡_ {A = ℕ} 0 1 = cc in omega arith
 other-atom bool int h e = let z : _≡_ {A = ℕ} 0 1 = cc in omega arith
