@@ -115,6 +115,12 @@ module _ (formula environment : List ℕ) (names capacity budget room work : ℕ
         ∙ ap (answered budget room) (fill-enough Γ (w .tree) capacity l (budget - fill Γ (w .tree) capacity l))),
   )
 
+-- the steps that an answer tells are those it was made with
+pub answer-steps : (n : ℕ) (o : Outcome) → answer n o .steps ≡ n
+unfolding answer written
+answer-steps n (typed es ss) = refl
+answer-steps n (failed ps) = refl
+
 -- ---- E7: an answer 0 or 1
 module _ (formula environment : List ℕ) (names capacity budget room work : ℕ) (graded : inferOf formula environment names capacity budget room work .number ≤ 1) where
   abbrev B : Answer
@@ -146,11 +152,6 @@ module _ (formula environment : List ℕ) (names capacity budget room work : ℕ
 
   pub given : Given
   given = given-row B (rows formula environment names capacity budget room work B .1 refl) graded refl
-
-  answer-steps : (n : ℕ) (o : Outcome) → answer n o .steps ≡ n
-  unfolding answer written
-  answer-steps n (typed es ss) = refl
-  answer-steps n (failed ps) = refl
 
   steps-price : B .steps ≡ price (lookup (given .walks .entries)) (given .walks .tree)
   steps-price = ap (λ (a : Answer). a .steps) (given .is) ∙ answer-steps _ _

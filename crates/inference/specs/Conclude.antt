@@ -125,7 +125,7 @@ module _ (Γ : Env) (f : Formula) where
   abbrev arena : Bench
   arena = start (zeros (3 * size))
 
-  safe : Sound 0 (walked Γ f .ops) × RowIn (0 + size) (walked Γ f .row) × SlotsIn (0 + size) (walked Γ f .slots) × Unit {0}
+  pub safe : Sound 0 (walked Γ f .ops) × RowIn (0 + size) (walked Γ f .row) × SlotsIn (0 + size) (walked Γ f .slots) × Unit {0}
   unfolding walked
   safe = safe-formula Γ f .safe 0 (omega arith) [] (λ x r e. absurd (none-found x r e))
 
@@ -133,7 +133,7 @@ module _ (Γ : Env) (f : Formula) where
   abbrev pub Concluded : Outcome → Type 0
   Concluded o = (s : Bench) × Ran size (start (zeros (3 * size))) (walked Γ f .ops) s × Finished s Γ (walked Γ f .row) (walked Γ f .slots) o
 
-  finished : (s : Bench) → Ran size arena (walked Γ f .ops) s → Exact (λ _. U) (Finished s Γ (walked Γ f .row) (walked Γ f .slots)) (finish Γ (walked Γ f .row) (walked Γ f .slots) s)
+  pub finished : (s : Bench) → Ran size arena (walked Γ f .ops) s → Exact (λ _. U) (Finished s Γ (walked Γ f .row) (walked Γ f .slots)) (finish Γ (walked Γ f .row) (walked Γ f .slots) s)
   unfolding start
   finished s ran =
       let c : s .count ≡ 0 + size = ran .counted in
@@ -141,7 +141,7 @@ module _ (Γ : Env) (f : Formula) where
       (found-asked Γ (λ x r. r < s .count) f (λ x r l e. (let q = safe .1 x r e in omega arith)))
       (subst (λ (n : ℕ). SlotsIn n (walked Γ f .slots)) (sym c) (safe .2))
 
-  long : 3 * size ≤ length (zeros (3 * size))
+  pub long : 3 * size ≤ length (zeros (3 * size))
   long = rw (length-replicate {A = ℕ} (3 * size) 0) (omega arith)
 
   -- every capacity that the nodes fit gives the same conclusion

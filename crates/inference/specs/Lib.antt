@@ -9,3 +9,5 @@ pub mod Sizes
 pub mod Numbers
 pub mod Budget
 pub mod Memory
+pub mod Chains
+pub mod AnyDirection

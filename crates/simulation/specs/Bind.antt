@@ -1,5 +1,5 @@
 -- Pieces one after the other: where the machine runs the first and then the second, it runs both.
--- After this file `runs-bind` serves every sequence of the walk; `sound-split` and `slots-join` serve where operations or slots alone follow each other.
+-- After this file `runs-bind` serves every sequence of the walk; `slots-join` serves where slots alone follow each other.
 use Prim.Native.Nat.{ℕ, suc, _+_, _*_, _≤_, _<_}
 use mathlib.Core.Path.{_≡_, sym, _∙_, ap, subst}
 use mathlib.Core.List.{List, [], _∷_, _++_}
@@ -9,22 +9,11 @@ use Rattle.meter.specs.Meter.{Out, spent, halt, done, broken, full, M, on}
 use Rattle.meter.specs.Meter as Mt
 use Rattle.formula.specs.Environment.{Env}
 use Rattle.unification.specs.Arena.{U}
-use Rattle.unification.specs.Ops.{Op, pay, make, compare, list, Bench, Sound, nodes, exec, exec-append}
+use Rattle.unification.specs.Ops.{Bench, Sound, sound-split, nodes, exec, exec-append}
 use Rattle.unification.specs.Exec.{Counts, exec-counts}
 use Rattle.walk.specs.Writer.{Row, Walk, W, glue, _>>=_}
 use Rattle.machine.specs.Machine.{Mach, cell}
 use Rattle.simulation.specs.Relation.{Slots, Filled, Ended, Runs}
-
--- references inside, of a list in two parts
-pub sound-split : (n : ℕ) (os qs : List Op) → Sound n (os ++ qs) → Sound n os × Sound (n + nodes os) qs
-sound-split n [] qs h = let e : n + 0 ≡ n = omega arith in (tt, subst (λ (k : ℕ). Sound k qs) (sym e) h)
-sound-split n (pay ∷ os) qs h = sound-split n os qs h
-sound-split n (make k a b ∷ os) qs h =
-    let z = sound-split (suc n) os qs (h .1) in
-    let e : suc n + nodes os ≡ n + suc (nodes os) = omega arith in
-    ((h .0, z .0), subst (λ (j : ℕ). Sound j qs) e (z .1))
-sound-split n (compare a b p ∷ os) qs h = let z = sound-split n os qs (h .2) in ((h .0, h .1, z .0), z .1)
-sound-split n (list q p ∷ os) qs h = sound-split n os qs h
 
 module _ (Γ : Env) (env : List ℕ) (cap room : ℕ) where
   -- slots of two pieces

@@ -91,7 +91,7 @@ module _ (Γ : Env) (env : List ℕ) (cap room : ℕ) (wide : cap ≤ 32768) whe
         let w = ap length (h .words) in
         let c = grow-count s k a b in
         let run = exec-made cap s [] k a b l (m .st .budget) ∙ exec-nil cap (grow s k a b) (m .st .budget) in
-        subst (λ (x : Mach). Ended Γ env cap room m x (node k a b (s .count) row) B (λ r v. Came (m .st .at .0) (m .st .from .0) r v) (exec cap (make k a b ∷ []) s (m .st .budget))) (sym (made-room s h (q .0) l))
+        subst (λ (x : Mach). Ended Γ env cap room m x (node k a b (s .count) row) B (λ r v. Came (m .st .at .0) (m .st .from .0) r v) (exec cap (make k a b ∷ []) s (m .st .budget))) (sym (made-room s h (q .0 .0) l))
         (subst (λ (y : Out U Bench). Ended Γ env cap room m (grown (s .count) (pushAt (s .words) (s .count) k a b) m) (node k a b (s .count) row) B (λ r v. Came (m .st .at .0) (m .st .from .0) r v) y) (sym run) (
           record {
             going = h .going;
@@ -99,7 +99,7 @@ module _ (Γ : Env) (env : List ℕ) (cap room : ℕ) (wide : cap ≤ 32768) whe
             words = sym (grow-words s k a b);
             sized = length-push (s .words) (s .count) k a b ∙ sym w ∙ z;
             counted = omega arith;
-            ready = grown-ready cap s k a b (h .ready) l (q .0);
+            ready = grown-ready cap s k a b (h .ready) l (q .0 .0);
             wrote = subst (λ (ps : List (ℕ × ℕ)). Wrote room (spellProblems (walkProblems ps)) (m .st .bytes) (m .st .over) (m .out)) (sym (grow-problems s k a b)) (h .wrote);
           },
           books-as Γ env cap room m (grown (s .count) (pushAt (s .words) (s .count) k a b) m) row B refl refl refl o,
@@ -110,7 +110,7 @@ module _ (Γ : Env) (env : List ℕ) (cap room : ℕ) (wide : cap ≤ 32768) whe
     make-by B s row h o q (no l) =
         subst (λ (y : Out U Bench). Ended Γ env cap room m (makeOf k a b m) (node k a b (s .count) row) B (λ r v. Came (m .st .at .0) (m .st .from .0) r v) y)
         (sym (exec-no-room cap s [] k a b (omega arith) (m .st .budget)))
-        (made-full s h (q .0) (omega arith))
+        (made-full s h (q .0 .0) (omega arith))
 
     pub runs-make : (B : List ℕ) → Runs Γ env cap room m (makeOf k a b m) (node k a b) B (λ _. B) (λ r v. Came (m .st .at .0) (m .st .from .0) r v)
     unfolding node

@@ -31,12 +31,19 @@ use Rattle.formula.specs.Tree.{Formula}
 use Rattle.formula.specs.Environment.{Env, Entries, lookup, spellEntries}
 use Rattle.typing.specs.Rules.{Typing}
 use Rattle.typing.specs.Typings.{One, None, Several, name-entries, slot-entries, excluded-of}
+use Rattle.meter.specs.Meter.{done, exact-done}
+use Rattle.unification.specs.Arena.{Direction}
+use Rattle.unification.specs.Ops.{Bench}
+use Rattle.unification.specs.Direction.{OneBinding}
+use Rattle.walk.specs.Walk.{walked}
 use Rattle.walk.specs.Excluded.{typed-allowed}
 use Rattle.inference.specs.Answer.{Problem, spellSlots, Answer, refused}
+use Rattle.inference.specs.Finish.{Outcome, finish}
 use Rattle.inference.specs.Infer.{answer, inferOf, outputAfter, zeros}
 use Rattle.inference.specs.Numbers.{Sized, after-other}
 use Rattle.inference.specs.Conclude.{size}
-use Rattle.inference.specs.Budget.{price, outcome, fill}
+use Rattle.inference.specs.Budget.{price, outcome, fill, answer-steps}
+use Rattle.inference.specs.AnyDirection.{Leaves, outcome-found}
 use Rattle.soundness.specs.Listing.{Lists, AllOf, SomeOf, Clash, Untyped, Among, among-in, problemOf}
 use Rattle.soundness.specs.Excluded.{excluded-kinds}
 use Rattle.soundness.specs.Verdict.{Verdict}
@@ -94,6 +101,13 @@ module _ (formula environment : List ℕ) (names capacity budget room work : ℕ
   excluded-listed z i =
       let h = among-in z (excluded-of f) i in
       (excluded-kinds f z h, as-outcome (λ a. (ps : List Problem) × Lists a ps × SomeOf (λ p. p ≡ problemOf z) ps) (listing-excluded Γ f (price Γ f) (outcome Γ f) verdict (excluded-none z i) z h))
+
+  -- ---- E8: the answer does not depend on which of two unknowns is bound. Let the formula's operations be run by the unifier's rules in any direction, the Rust's
+  -- (`leftBound`) or another: types, problems, their order and places are those of this answer. (`Leaves`: the arena after that run; there is one, `outcome-run`)
+  pub any-direction : (by : Direction) (one : OneBinding by) (t : Bench) → Leaves Γ f by one t → (budget′ left : ℕ) (o : Outcome) → finish Γ (walked Γ f .row) (walked Γ f .slots) t budget′ ≡ done o left → A ≡ answer (A .steps) o
+  any-direction by one t run budget′ left o e =
+      let q : o ≡ outcome Γ f = exact-done (outcome-found Γ f by one t run) budget′ o left e in
+      subst (λ (u : Outcome). A ≡ answer (A .steps) u) (sym q) (as-outcome (λ a. a ≡ answer (a .steps) (outcome Γ f)) (ap (λ (n : ℕ). answer n (outcome Γ f)) (sym (answer-steps (price Γ f) (outcome Γ f)))))
 
 -- ---- E7: the steps of an answer 0 or 1
 module _ (formula environment : List ℕ) (names capacity budget room work : ℕ) (judged : inferOf formula environment names capacity budget room work .number ≤ 1) where

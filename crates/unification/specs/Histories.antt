@@ -17,7 +17,7 @@ use Rattle.types.specs.Record as R
 use Rattle.types.specs.Record.{headOf}
 use Rattle.unification.specs.Arena.{Node, free, link, leaf, power, pair, bad, decode, Words, choose}
 use Rattle.unification.specs.Trees.{and-left, and-right}
-use Rattle.unification.specs.Good.{Inside, pushAt, length-push, push-word}
+use Rattle.unification.specs.Good.{Proper, pushAt, length-push, push-word}
 use Rattle.unification.specs.Make.{makeOf, build, relate}
 use Rattle.unification.specs.Laws.{Reached, made, reached-whole}
 use Rattle.unification.specs.Lift.{Raised, crown, liftBy, liftOf}
@@ -30,7 +30,7 @@ After n ws (spent vs) = ⊥
 After n ws (halt w vs) = vs ≡ ws
 After n ws (done o r) = (o .0 ≡ n) × Reached (suc n) (o .1)
 
-module _ (n : ℕ) (ws : Words) (R : Reached n ws) (b k x y : ℕ) (i : Inside n (decode k x y)) where
+module _ (n : ℕ) (ws : Words) (R : Reached n ws) (b k x y : ℕ) (i : Proper n k x y) where
   at-last : (c : Bool) → 3 * suc n ≤ length ws → After n ws (choose c (ret (n, pushAt ws n k x y)) (fail broken ws) b)
   unfolding choose ret fail
   at-last true l = (refl, made k x y i l R)
@@ -53,22 +53,22 @@ module _ (n : ℕ) (ws : Words) (R : Reached n ws) (b k x y : ℕ) (i : Inside n
 module _ (n : ℕ) (ws : Words) (R : Reached n ws) (b : ℕ) where
   if-power : (x : ℕ) (c : Bool) → ltb x n ≡ c → After n ws (choose c (makeOf ws n 0x43 x 0) (fail broken ws) b)
   unfolding choose fail
-  if-power x true e = make-reached n ws R b 0x43 x 0 (ltb-true x n e)
+  if-power x true e = make-reached n ws R b 0x43 x 0 (ltb-true x n e, λ _. refl)
   if-power x false e = refl
 
   if-pair : (x y : ℕ) (c : Bool) → ltb x n && ltb y n ≡ c → After n ws (choose c (makeOf ws n 0x44 x y) (fail broken ws) b)
   unfolding choose fail
-  if-pair x y true e = make-reached n ws R b 0x44 x y (ltb-true x n (and-left (ltb x n) (ltb y n) e), ltb-true y n (and-right (ltb x n) (ltb y n) e))
+  if-pair x y true e = make-reached n ws R b 0x44 x y ((ltb-true x n (and-left (ltb x n) (ltb y n) e), ltb-true y n (and-right (ltb x n) (ltb y n) e)), λ e. cc)
   if-pair x y false e = refl
 
   -- every maker, at every budget
   pub build-reached : (nd : Node) → After n ws (build ws n nd b)
   unfolding build fail
-  build-reached free = make-reached n ws R b 0x4E 0 0 tt
+  build-reached free = make-reached n ws R b 0x4E 0 0 (tt, λ _. refl)
   build-reached (link j) = refl
-  build-reached (leaf bool) = make-reached n ws R b 0x40 0 0 tt
-  build-reached (leaf int) = make-reached n ws R b 0x41 0 0 tt
-  build-reached (leaf (given x)) = make-reached n ws R b 0x42 x 0 tt
+  build-reached (leaf bool) = make-reached n ws R b 0x40 0 0 (tt, λ _. refl)
+  build-reached (leaf int) = make-reached n ws R b 0x41 0 0 (tt, λ _. refl)
+  build-reached (leaf (given x)) = make-reached n ws R b 0x42 x 0 (tt, λ _. refl)
   build-reached (power x) = if-power x (ltb x n) refl
   build-reached (pair x y) = if-pair x y (ltb x n && ltb y n) refl
   build-reached bad = refl

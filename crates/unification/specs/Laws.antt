@@ -16,7 +16,7 @@ use Rattle.meter.specs.Meter.{Out, spent, halt, done, Why, broken, full, M, ret
 use Rattle.types.specs.Ty.{Atom, bool, int, given, Ty, base, pow, prod}
 use Rattle.unification.specs.Arena.{Node, free, link, leaf, power, pair, bad, decode, Words, U, nodeAt, bindAt, follow, resolve, occurs, solved, read, Verdict, unified, mismatch, circular, Pair, Answer, unifyF, unify}
 use Rattle.unification.specs.Trees.{Tm, var, eval, has, ground, ground-same, ground-differs}
-use Rattle.unification.specs.Good.{Nodes, Assignment, Says, Admits, Good, Inside, spelt, extend, extend-admits, extend-free, good-push, pushAt, length-push, node-push-new, node-push-old, inside-no, node-out}
+use Rattle.unification.specs.Good.{Nodes, Assignment, Says, Admits, Good, Inside, Proper, spelt, extend, extend-admits, extend-free, good-push, pushAt, length-push, node-push-new, node-push-old, inside-no, node-out}
 use Rattle.unification.specs.Steps.{resolve-eq, resolve-metered, occurs-metered, solved-metered, unify-metered, unify-eq}
 use Rattle.unification.specs.Readers.{resolve-exact, occurs-exact, solved-exact, read-exact}
 use Rattle.unification.specs.Twin.{read-as-solved}
@@ -54,10 +54,10 @@ solved-refused ws n t β w e q = halt-costs (solved-metered ws n t) w e β q
 pub unify-refused : (n : ℕ) (i : Pair) (β : ℕ) (w : Why) (ws : Words) → unify n i β ≡ halt w ws → (c : ℕ) × (c ≤ β) × Halts (unify n i) w ws c
 unify-refused n i β w ws q = halt-costs (unify-metered n i) w ws β q
 
--- the arenas reached from the empty one by public calls; every node made is fresh, BOOL, ℤ, given, power or product
+-- the arenas reached from the empty one by public calls; every node made is an unknown of rank 0, BOOL, ℤ, given, power or product
 pub data Reached : ℕ → Words → Type 0 where
   empty : (ws : Words) → Reached 0 ws
-  made : {n : ℕ} {ws : Words} (k a b : ℕ) → Inside n (decode k a b) → 3 * suc n ≤ length ws → Reached n ws → Reached (suc n) (pushAt ws n k a b)
+  made : {n : ℕ} {ws : Words} (k a b : ℕ) → Proper n k a b → 3 * suc n ≤ length ws → Reached n ws → Reached (suc n) (pushAt ws n k a b)
   called : {n : ℕ} {ws : Words} (a b budget : ℕ) → Reached n ws → Reached n (after (unify n (ws, a, b) budget))
 
 -- a reference outside is refused, and the words stand
@@ -113,7 +113,7 @@ made-whole n ws k a b i s w = (
 -- every arena reached is whole
 pub reached-whole : {n : ℕ} {ws : Words} → Reached n ws → (3 * n ≤ length ws) × Good n (nodeAt ws n)
 reached-whole (empty ws) = (omega arith, record { tree = λ x. var x; rank = λ x. 0; fits = λ x l. absurd (omega arith) })
-reached-whole (made {n = n} {ws = ws} k a b i s r) = made-whole n ws k a b i s (reached-whole r)
+reached-whole (made {n = n} {ws = ws} k a b i s r) = made-whole n ws k a b (i .0) s (reached-whole r)
 reached-whole (called {n = n} {ws = ws} a b β r) = called-whole n ws a b β (reached-whole r) (decLt a n) (decLt b n)
 
 -- a budget that suffices, and from it on the same answer

@@ -13,7 +13,7 @@ use native.Mathlib.Decide.{decLt}
 use borrow.Author.Tests.{lt-ltb, le-ltb}
 use Rattle.meter.specs.Meter.{Out, spent, halt, done, Why, broken, full, M, ret, fail, tick, _>>=_, forget, Metered, metered-ret, metered-fail, metered-tick, metered-bind, metered-forget, Exact, exact-ret, exact-tick, exact-eq, exact-map, exact-bind, exact-forget, bind-assoc, bind-ret, bind-fail, tick-bind, Halts, halts-fail, halts-eq, halts-tick, halts-bind}
 use Rattle.unification.specs.Arena.{Node, decode, Words, U, nodeAt, choose, Verdict, unified, mismatch, circular, Answer, unify}
-use Rattle.unification.specs.Good.{Assignment, Says, Admits, Good, Inside, good-push, push-keeps, push-takes, pushAt, length-push, node-push-new, node-push-old}
+use Rattle.unification.specs.Good.{Assignment, Says, Admits, Good, Inside, Proper, good-push, push-keeps, push-takes, pushAt, length-push, node-push-new, node-push-old}
 use Rattle.unification.specs.Steps.{unify-metered, choose-metered}
 use Rattle.unification.specs.Unifies.{Kept, Outcome, Judges, unify-exact}
 
@@ -86,11 +86,11 @@ Meets σ n (make k a b ∷ os) = Says σ n (decode k a b) × Meets σ (suc n) os
 Meets σ n (compare a b p ∷ os) = (σ a ≡ σ b) × Meets σ n os
 Meets σ n (list q p ∷ os) = ⊥
 
--- references inside
+-- references inside, and unknowns of rank 0
 abbrev pub Sound : ℕ → List Op → Type 0
 Sound n [] = Unit {0}
 Sound n (pay ∷ os) = Sound n os
-Sound n (make k a b ∷ os) = Inside n (decode k a b) × Sound (suc n) os
+Sound n (make k a b ∷ os) = Proper n k a b × Sound (suc n) os
 Sound n (compare a b p ∷ os) = (a < n) × (b < n) × Sound n os
 Sound n (list q p ∷ os) = Sound n os
 
@@ -100,6 +100,17 @@ nodes (pay ∷ os) = nodes os
 nodes (make k a b ∷ os) = suc (nodes os)
 nodes (compare a b p ∷ os) = nodes os
 nodes (list q p ∷ os) = nodes os
+
+-- a list in two parts
+pub sound-split : (n : ℕ) (os qs : List Op) → Sound n (os ++ qs) → Sound n os × Sound (n + nodes os) qs
+sound-split n [] qs h = let e : n + 0 ≡ n = omega arith in (tt, subst (λ (k : ℕ). Sound k qs) (sym e) h)
+sound-split n (pay ∷ os) qs h = sound-split n os qs h
+sound-split n (make k a b ∷ os) qs h =
+    let z = sound-split (suc n) os qs (h .1) in
+    let e : suc n + nodes os ≡ n + suc (nodes os) = omega arith in
+    ((h .0, z .0), subst (λ (j : ℕ). Sound j qs) e (z .1))
+sound-split n (compare a b p ∷ os) qs h = let z = sound-split n os qs (h .2) in ((h .0, h .1, z .0), z .1)
+sound-split n (list q p ∷ os) qs h = sound-split n os qs h
 
 abbrev pub Admitted : Bench → Assignment → Type 0
 Admitted s σ = Admits (s .count) (nodeAt (s .words) (s .count)) σ
@@ -282,7 +293,7 @@ module _ (cap : ℕ) where
   exec-exact (make k a b ∷ os) s r w l =
       let q : s .count < cap = omega arith in
       exact-eq (ap (λ (c : Bool). choose c (exec cap os (grow s k a b)) (fail full tt)) (lt-ltb (s .count) cap q))
-      (exact-map (λ _ u. u) (λ s′ h. grown-ran s k a b r q (w .0) os s′ h) (exec-exact os (grow s k a b) (grown-ready s k a b r q (w .0)) (w .1) (omega arith)))
+      (exact-map (λ _ u. u) (λ s′ h. grown-ran s k a b r q (w .0 .0) os s′ h) (exec-exact os (grow s k a b) (grown-ready s k a b r q (w .0 .0)) (w .1) (omega arith)))
   exec-exact (compare a b p ∷ os) s r w l =
       exact-bind (exact-forget (unify-exact (s .count) (s .words) (let q = r .roomy in omega arith) (r .good) a b (w .0) (w .1)))
       (λ o g. exact-map (λ _ u. u) (λ s′ h. learnt-ran s a b p os o g s′ h) (exec-exact os (learn s p o) (learnt-ready s a b p o r (g .kept)) (w .2) l))
@@ -293,7 +304,7 @@ module _ (cap : ℕ) where
   unfolding exec choose grow learn complain
   exec-full [] s r w l f = absurd (omega arith)
   exec-full (pay ∷ os) s r w l f = let z = exec-full os s r w l f in (suc (z .0), halts-tick tt (z .1))
-  exec-full (make k a b ∷ os) s r w l f = at-make (decLt (s .count) cap) (λ q. exec-full os (grow s k a b) (grown-ready s k a b r q (w .0)) (w .1) (omega arith) (omega arith))
+  exec-full (make k a b ∷ os) s r w l f = at-make (decLt (s .count) cap) (λ q. exec-full os (grow s k a b) (grown-ready s k a b r q (w .0 .0)) (w .1) (omega arith) (omega arith))
     where
       at-make : Dec (s .count < cap) → (s .count < cap → (c : ℕ) × Halts (exec cap os (grow s k a b)) full tt c) → (c : ℕ) × Halts (choose (ltb (s .count) cap) (exec cap os (grow s k a b)) (fail full tt)) full tt c
       at-make (yes q) rec = let z = rec q in (z .0, halts-eq (ap (λ (c : Bool). choose c (exec cap os (grow s k a b)) (fail full tt)) (lt-ltb (s .count) cap q)) (z .1))

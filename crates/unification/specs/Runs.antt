@@ -61,7 +61,7 @@ module _ (by by′ : Direction) (one : OneBinding by) (one′ : OneBinding by′
   runs-too (made {k = k} {a = a} {b = b} {s = s} x) us S w r r′ =
       let p = length-push (s .words) (s .count) k a b in
       let p′ = length-push us (s .count) k a b in
-      let z = runs-too x (pushAt us (s .count) k a b) (same-made (s .count) (s .words) us k a b S (omega arith) (omega arith) (w .0)) (w .1) (omega arith) (omega arith) in
+      let z = runs-too x (pushAt us (s .count) k a b) (same-made (s .count) (s .words) us k a b S (omega arith) (omega arith) (w .0 .0)) (w .1) (omega arith) (omega arith) in
       (z .0, made (z .1), z .2)
   runs-too (compared {a = a} {b = b} {s = s} d x) us S w r r′ =
       let h = tells-outcome by one (s .count) (S .roomy) (S .good) (w .0) (w .1) d in

@@ -18,7 +18,7 @@ use Rattle.meter.specs.Meter.{Out, spent, halt, done, M, ret, fail, tick, on, f
 use Rattle.unification.specs.Arena.{Node, free, link, leaf, power, pair, bad, decode, Words, nodeAt, bindAt, unknown, rankAt, either, below, level, raised, mergeAt, U, follow, resolve, Answer, unify}
 use Rattle.unification.specs.Steps.{resolve-eq}
 use Rattle.unification.specs.Trees.{and-left, and-right}
-use Rattle.unification.specs.Good.{Root, Inside, pushAt, word-other, node-push-new, node-push-old, push-word, push-second, length-push}
+use Rattle.unification.specs.Good.{Root, Inside, Proper, pushAt, word-other, node-push-new, node-push-old, push-word, push-second, length-push}
 use Rattle.unification.specs.Merge.{Binds, below-free, level-free, left-binds, right-binds, length-merge}
 use Rattle.unification.specs.Laws.{after, Reached, empty, made, called, reached-whole}
 use Rattle.unification.specs.Carry.{unify-carries}
@@ -40,7 +40,7 @@ two-up zero k j e = let q : k ≡ j = omega arith in let h : two k ≡ two j = a
 two-up (suc d) k zero e = absurd (omega arith)
 two-up (suc d) k (suc j) e = let h = two-up d k j (omega arith) in let q = two-next j in omega arith
 
-two-mono : (a b : ℕ) → a ≤ b → two a ≤ two b
+pub two-mono : (a b : ℕ) → a ≤ b → two a ≤ two b
 two-mono a b l = two-up (b - a) a b (omega arith)
 
 two-pos : (k : ℕ) → 1 ≤ two k
@@ -333,7 +333,7 @@ module _ (n : ℕ) (small : n < two 32) (ws : Words) (s : 3 * n ≤ length ws) (
   merge-ranked = merge-ranked-at (below ws n v t) refl
 
 -- ---- a node made: an unknown with rank 0
-module _ (n : ℕ) (ws : Words) (k a b : ℕ) (s : 3 * suc n ≤ length ws) (i : Inside n (decode k a b)) (zeroed : decode k a b ≡ free → b ≡ 0) (R : Ranked n ws) where
+module _ (n : ℕ) (ws : Words) (k a b : ℕ) (s : 3 * suc n ≤ length ws) (i : Proper n k a b) (R : Ranked n ws) where
   abbrev ws″ : Words
   ws″ = pushAt ws n k a b
 
@@ -373,7 +373,7 @@ module _ (n : ℕ) (ws : Words) (k a b : ℕ) (s : 3 * suc n ≤ length ws) (i :
 
   new-stood : (nd : Node) → decode k a b ≡ nd → Inside n nd → Stood (suc n) ws″ massN n nd
   unfolding two
-  new-stood free e j = let m = massN-new in let r : two (rankAt ws″ n) ≡ two 0 = ap two (rank-new ∙ zeroed e) in omega arith
+  new-stood free e j = let m = massN-new in let r : two (rankAt ws″ n) ≡ two 0 = ap two (rank-new ∙ i .1 e) in omega arith
   new-stood (link x) e j = absurd j
   new-stood (leaf p) e j = tt
   new-stood (power x) e j = tt
@@ -382,7 +382,7 @@ module _ (n : ℕ) (ws : Words) (k a b : ℕ) (s : 3 * suc n ≤ length ws) (i :
 
   stoodN : (z : ℕ) → z < suc n → Dec (z ≡ n) → Stood (suc n) ws″ massN z (nodeAt ws″ (suc n) z)
   stoodN z l (yes e) = subst (λ (y : ℕ). Stood (suc n) ws″ massN y (nodeAt ws″ (suc n) y)) (sym e)
-      (subst (λ (c : Node). Stood (suc n) ws″ massN n c) (sym (node-push-new ws n k a b s)) (new-stood (decode k a b) refl i))
+      (subst (λ (c : Node). Stood (suc n) ws″ massN n c) (sym (node-push-new ws n k a b s)) (new-stood (decode k a b) refl (i .0)))
   stoodN z l (no h) = let q : z < n = omega arith in subst (λ (c : Node). Stood (suc n) ws″ massN z c) (sym (node-push-old ws n k a b s z q)) (old-stood z q (nodeAt ws n z) (R .stood z q))
 
   share-le : (nd : Node) (m : ℕ) → share nd m ≤ m
@@ -407,23 +407,21 @@ module _ (n : ℕ) (ws : Words) (k a b : ℕ) (s : 3 * suc n ≤ length ws) (i :
   pub made-ranked : Ranked (suc n) ws″
   made-ranked = record { mass = massN; stood = λ z l. stoodN z l (ℕ-discrete z n); held = heldN }
 
--- ---- every arena reached, if its unknowns were made with rank 0, as the makers make them
-abbrev pub Zeroed : {n : ℕ} {ws : Words} → Reached n ws → Type 0
-Zeroed (empty ws) = Unit {0}
-Zeroed (made k a b i s r) = Zeroed r × (decode k a b ≡ free → b ≡ 0)
-Zeroed (called a b β r) = Zeroed r
-
+-- ---- every arena reached
 abbrev Kept : ℕ → Words → Type 0
 Kept n ws = (3 * n ≤ length ws) × Ranked n ws
 
-pub reached-ranked : {n : ℕ} {ws : Words} (H : Reached n ws) → Zeroed H → n < two 32 → Ranked n ws
+empty-ranked : (ws : Words) → Ranked 0 ws
 unfolding sum
-reached-ranked (empty ws) z l = record { mass = λ x. 0; stood = λ x q. absurd (omega arith); held = omega arith }
-reached-ranked (made {n = n} {ws = ws} k a b i s r) z l = made-ranked n ws k a b s i (z .1) (reached-ranked r (z .0) (omega arith))
-reached-ranked (called {n = n} {ws = ws} a b β r) z l =
+empty-ranked ws = record { mass = λ x. 0; stood = λ x q. absurd (omega arith); held = omega arith }
+
+pub reached-ranked : {n : ℕ} {ws : Words} → Reached n ws → n < two 32 → Ranked n ws
+reached-ranked (empty ws) l = empty-ranked ws
+reached-ranked (made {n = n} {ws = ws} k a b i s r) l = made-ranked n ws k a b s i (reached-ranked r (omega arith))
+reached-ranked (called {n = n} {ws = ws} a b β r) l =
     unify-carries n (λ us. Kept n us)
     (λ us h v t vl tl ne fr root. (rw (length-merge us n v t) (h .0), merge-ranked n l us (h .0) (h .1) v t vl tl ne fr root))
-    ws (reached-whole r .0, reached-ranked r z l) a b β .1
+    ws (reached-whole r .0, reached-ranked r l) a b β .1
 
 -- ---- how far a reference is from its end
 module _ (n : ℕ) (ws : Words) (R : Ranked n ws) where
@@ -509,56 +507,57 @@ module _ (n : ℕ) (ws : Words) (R : Ranked n ws) where
   ranked-short t l β p r h = let w = walked (suc β) β (omega arith) t p r h in (w .0, w .1, follows-short l (w .2 .1))
 
 -- KEY: of every arena reached, with fewer than 2^32 nodes: to follow a reference costs c units only where 2^c ≤ 2 * n
-pub resolve-short : {n : ℕ} {ws : Words} (H : Reached n ws) → Zeroed H → n < two 32 → (t : ℕ) → t < n → (β p r : ℕ) → resolve ws n t β ≡ done p r → (c : ℕ) × (c + r ≡ β) × (two c ≤ 2 * n)
-resolve-short {n} {ws} H z l t tl β p r h = ranked-short n ws (reached-ranked H z l) t tl β p r h
+pub resolve-short : {n : ℕ} {ws : Words} → Reached n ws → n < two 32 → (t : ℕ) → t < n → (β p r : ℕ) → resolve ws n t β ≡ done p r → (c : ℕ) × (c + r ≡ β) × (two c ≤ 2 * n)
+resolve-short {n} {ws} H l t tl β p r h = ranked-short n ws (reached-ranked H l) t tl β p r h
 
--- ---- a list of operations, whose unknowns are made with rank 0
-abbrev pub Plain : List Op → Type 0
-Plain [] = Unit {0}
-Plain (pay ∷ os) = Plain os
-Plain (make k a b ∷ os) = (decode k a b ≡ free → b ≡ 0) × Plain os
-Plain (compare a b p ∷ os) = Plain os
-Plain (list q p ∷ os) = Plain os
-
-abbrev pub Fine : Out U Bench → Type 0
-Fine (spent e) = Unit {0}
-Fine (halt w e) = Unit {0}
-Fine (done s r) = Ranked (s .count) (s .words)
-
+-- ---- a list of operations: ranked before it, ranked after it
 module _ (cap : ℕ) where
-  abbrev Ran : List Op → Type 0
-  Ran os = (s : Bench) → Sound (s .count) os → Plain os → s .count + nodes os < two 32 → 3 * cap ≤ length (s .words) → 3 * s .count ≤ length (s .words) → Ranked (s .count) (s .words) → (β : ℕ) → Fine (exec cap os s β)
+  abbrev Fine : Out U Bench → Type 0
+  Fine (spent e) = Unit {0}
+  Fine (halt w e) = Unit {0}
+  Fine (done s r) = Ranked (s .count) (s .words)
 
-  ran-make : (k a b : ℕ) (os : List Op) → Ran os → (s : Bench) → Inside (s .count) (decode k a b) → Sound (suc (s .count)) os → (decode k a b ≡ free → b ≡ 0) → Plain os → suc (s .count) + nodes os < two 32
-      → 3 * cap ≤ length (s .words) → Ranked (s .count) (s .words) → (β : ℕ) → Dec (s .count < cap) → Fine (exec cap (make k a b ∷ os) s β)
+  abbrev Ran : List Op → Type 0
+  Ran os = (s : Bench) → Sound (s .count) os → s .count + nodes os < two 32 → 3 * (s .count + nodes os) ≤ length (s .words) → Ranked (s .count) (s .words) → (β : ℕ) → Fine (exec cap os s β)
+
+  ran-make : (k a b : ℕ) (os : List Op) → Ran os → (s : Bench) → Proper (s .count) k a b → Sound (suc (s .count)) os → suc (s .count) + nodes os < two 32
+      → 3 * (suc (s .count) + nodes os) ≤ length (s .words) → Ranked (s .count) (s .words) → (β : ℕ) → Dec (s .count < cap) → Fine (exec cap (make k a b ∷ os) s β)
   unfolding grow
-  ran-make k a b os rec s i so z pl l room R β (yes q) =
+  ran-make k a b os rec s i so l room R β (yes q) =
       let e = length-push (s .words) (s .count) k a b in
       subst (λ (o : Out U Bench). Fine o) (sym (exec-made cap s os k a b q β))
-      (rec (grow s k a b) so pl l (omega arith) (omega arith) (made-ranked (s .count) (s .words) k a b (omega arith) i z R) β)
-  ran-make k a b os rec s i so z pl l room R β (no q) = subst (λ (o : Out U Bench). Fine o) (sym (exec-no-room cap s os k a b (omega arith) β)) tt
+      (rec (grow s k a b) so l (omega arith) (made-ranked (s .count) (s .words) k a b (omega arith) i R) β)
+  ran-make k a b os rec s i so l room R β (no q) = subst (λ (o : Out U Bench). Fine o) (sym (exec-no-room cap s os k a b (omega arith) β)) tt
 
-  abbrev Same : ℕ → Words → Words → Type 0
-  Same n ws us = (length us ≡ length ws) × Ranked n us
+  abbrev Still : ℕ → Words → Words → Type 0
+  Still n ws us = (length us ≡ length ws) × Ranked n us
 
-  compared : (n : ℕ) → n < two 32 → (ws : Words) → 3 * n ≤ length ws → Ranked n ws → (a b β : ℕ) → Same n ws (after (unify n (ws, a, b) β))
-  compared n l ws s R a b β = unify-carries n (λ us. Same n ws us)
+  compared : (n : ℕ) → n < two 32 → (ws : Words) → 3 * n ≤ length ws → Ranked n ws → (a b β : ℕ) → Still n ws (after (unify n (ws, a, b) β))
+  compared n l ws s R a b β = unify-carries n (λ us. Still n ws us)
       (λ us h v t vl tl ne fr root. (length-merge us n v t ∙ h .0, merge-ranked n l us (rw (h .0) s) (h .1) v t vl tl ne fr root)) ws (refl, R) a b β
 
-  ran-on : (p : ℕ) (os : List Op) → Ran os → (s : Bench) → Sound (s .count) os → Plain os → s .count + nodes os < two 32 → 3 * cap ≤ length (s .words) → 3 * s .count ≤ length (s .words)
-      → (o : Out Words Answer) → Same (s .count) (s .words) (after o) → Fine (on (forgetE o) (λ x. exec cap os (learn s p x)))
+  ran-on : (p : ℕ) (os : List Op) → Ran os → (s : Bench) → Sound (s .count) os → s .count + nodes os < two 32 → 3 * (s .count + nodes os) ≤ length (s .words)
+      → (o : Out Words Answer) → Still (s .count) (s .words) (after o) → Fine (on (forgetE o) (λ x. exec cap os (learn s p x)))
   unfolding on forgetE after learn
-  ran-on p os rec s so pl l room fits (spent e) h = tt
-  ran-on p os rec s so pl l room fits (halt w e) h = tt
-  ran-on p os rec s so pl l room fits (done x r) h = rec (learn s p x) so pl l (rw (h .0) room) (rw (h .0) fits) (h .1) r
+  ran-on p os rec s so l room (spent e) h = tt
+  ran-on p os rec s so l room (halt w e) h = tt
+  ran-on p os rec s so l room (done x r) h = rec (learn s p x) so l (rw (h .0) room) (h .1) r
 
-  pub exec-ranked : (os : List Op) → Ran os
+  exec-ranked : (os : List Op) → Ran os
   unfolding complain
-  exec-ranked [] s so pl l room fits R β = subst (λ (o : Out U Bench). Fine o) (sym (exec-nil cap s β)) R
-  exec-ranked (pay ∷ os) s so pl l room fits R zero = subst (λ (o : Out U Bench). Fine o) (sym (exec-unpaid cap s os)) tt
-  exec-ranked (pay ∷ os) s so pl l room fits R (suc β) = subst (λ (o : Out U Bench). Fine o) (sym (exec-paid cap s os β)) (exec-ranked os s so pl l room fits R β)
-  exec-ranked (make k a b ∷ os) s so pl l room fits R β = ran-make k a b os (exec-ranked os) s (so .0) (so .1) (pl .0) (pl .1) (omega arith) room R β (decLt (s .count) cap)
-  exec-ranked (compare a b p ∷ os) s so pl l room fits R β =
+  exec-ranked [] s so l room R β = subst (λ (o : Out U Bench). Fine o) (sym (exec-nil cap s β)) R
+  exec-ranked (pay ∷ os) s so l room R zero = subst (λ (o : Out U Bench). Fine o) (sym (exec-unpaid cap s os)) tt
+  exec-ranked (pay ∷ os) s so l room R (suc β) = subst (λ (o : Out U Bench). Fine o) (sym (exec-paid cap s os β)) (exec-ranked os s so l room R β)
+  exec-ranked (make k a b ∷ os) s so l room R β = ran-make k a b os (exec-ranked os) s (so .0) (so .1) (omega arith) (omega arith) R β (decLt (s .count) cap)
+  exec-ranked (compare a b p ∷ os) s so l room R β =
       subst (λ (o : Out U Bench). Fine o) (sym (exec-compared cap s os a b p β))
-      (ran-on p os (exec-ranked os) s (so .2) pl l room fits (unify (s .count) (s .words, a, b) β) (compared (s .count) (omega arith) (s .words) fits R a b β))
-  exec-ranked (list q p ∷ os) s so pl l room fits R β = subst (λ (o : Out U Bench). Fine o) (sym (exec-listed cap s os q p β)) (exec-ranked os (complain s q p) so pl l room fits R β)
+      (ran-on p os (exec-ranked os) s (so .2) l room (unify (s .count) (s .words, a, b) β) (compared (s .count) (omega arith) (s .words) (omega arith) R a b β))
+  exec-ranked (list q p ∷ os) s so l room R β = subst (λ (o : Out U Bench). Fine o) (sym (exec-listed cap s os q p β)) (exec-ranked os (complain s q p) so l room R β)
+
+  -- KEY: run from an empty arena, at every capacity and budget: to follow a reference then costs c units only where 2^c ≤ 2 * n
+  pub exec-short : (os : List Op) (s : Bench) → s .count ≡ 0 → Sound 0 os → nodes os < two 32 → 3 * nodes os ≤ length (s .words) → (β : ℕ) (s′ : Bench) (left : ℕ) → exec cap os s β ≡ done s′ left
+      → (t : ℕ) → t < s′ .count → (β′ p r : ℕ) → resolve (s′ .words) (s′ .count) t β′ ≡ done p r → (c : ℕ) × (c + r ≡ β′) × (two c ≤ 2 * s′ .count)
+  exec-short os s z so l room β s′ left e t tl β′ p r h =
+      let R₀ : Ranked (s .count) (s .words) = subst (λ (n : ℕ). Ranked n (s .words)) (sym z) (empty-ranked (s .words)) in
+      let R : Ranked (s′ .count) (s′ .words) = subst (λ (o : Out U Bench). Fine o) e (exec-ranked os s (subst (λ (n : ℕ). Sound n os) (sym z) so) (omega arith) (omega arith) R₀ β) in
+      ranked-short (s′ .count) (s′ .words) R t tl β′ p r h

@@ -66,6 +66,6 @@ module _ (cap : ℕ) (s : Bench) (l : suc (s .count) < cap) where
 
   pub power-admitted : Ready cap s → (σ : Assignment) → Admitted two σ → σ (suc (s .count)) ≡ pow (σ (s .count))
   power-admitted r σ A =
-      let x = exec-exact cap unknown-power s r (tt, (omega arith, tt)) (omega arith) in
+      let x = exec-exact cap unknown-power s r ((tt, λ _. refl), ((omega arith, λ _. refl), tt)) (omega arith) in
       let j = exact-done x 0 two 0 (power-made 0) .judged in
       met-after s unknown-power two (grow-problems one 0x43 (s .count) 0 ∙ grow-problems s 0x4E 0 0) j σ A .1 .0

@@ -1,4 +1,5 @@
--- Every reference of the walk is to a node already made: the operations never leave the arena.
+-- Every reference of the walk is to a node already made, and every unknown is made with rank 0: the operations never leave the arena, and chains of
+-- bindings stay short in it.
 use Prim.Native.Nat.{ℕ, zero, suc, _+_, _*_, _≤_, _<_}
 use mathlib.Core.Path.{_≡_, refl, sym, _∙_, ap, ap₂, subst}
 use mathlib.Core.Bool.{Bool, true, false, _&&_}
@@ -10,9 +11,8 @@ use borrow.Author.Tests.{leb-true, ltb-true}
 use Rattle.types.specs.Ty.{bool, int, given, Ty, base, pow, prod}
 use Rattle.formula.specs.Environment.{Entry, lacks, holds, Env}
 use Rattle.formula.specs.Tree.{Spelling, spells, no-type, Decl, plain, typed, annotated, Expr, free, bound, literal, atomic, extension, truth, binary, associative, unary, quantified, ascribed, explicit, Exprs, none, more, Pred, constant, variable, relational, connective, junction, negation, quantification, simple, multiple, application, Preds, end, also, Target, Formula, expression, predicate, becomes, becomes-in, becomes-such, slots, place}
-use Rattle.unification.specs.Arena.{decode}
 use Rattle.unification.specs.Trees.{and-left, and-right}
-use Rattle.unification.specs.Good.{Inside}
+use Rattle.unification.specs.Good.{Proper}
 use Rattle.unification.specs.Ops.{Op, pay, make, compare, list, nodes, Sound}
 use Rattle.typing.specs.Equations.{a, b, c, d, R, Way, forward, backward, look}
 use Rattle.walk.specs.Writer.{Row, Found, at, absent, find, W, done, glue, _>>=_, enter, own, node, same, problem, enrol, UNKNOWN, BOOLEAN, INTEGER, GIVEN, POWER, PRODUCT, unknown, boolean, integer, power}
@@ -110,7 +110,7 @@ pub safe-own : {b : ℕ} {m : W ℕ} (p : ℕ) → Safe b m Below → Safe b (ow
 unfolding own
 safe-own p g = record { safe = λ n l row r. (let q = g .safe n l row r in (q .0, q .1, (q .3, q .2), q .3)) }
 
-pub safe-node : {b : ℕ} (k x y : ℕ) → ((n : ℕ) → b ≤ n → Inside n (decode k x y)) → Safe b (node k x y) Below
+pub safe-node : {b : ℕ} (k x y : ℕ) → ((n : ℕ) → b ≤ n → Proper n k x y) → Safe b (node k x y) Below
 unfolding node
 safe-node k x y h = record { safe = λ n l row r. ((h n l, tt), λ z s e. (let q = r z s e in omega arith), tt, omega arith) }
 
@@ -132,15 +132,15 @@ safe-enrol {b = b} x p r h = record { safe = λ n l row i. (tt, λ z s e. go n l
 
 pub safe-lift : {b : ℕ} (t : Ty) → Safe b (lift t) Below
 unfolding lift atom
-safe-lift (base bool) = safe-node BOOLEAN 0 0 (λ n l. tt)
-safe-lift (base int) = safe-node INTEGER 0 0 (λ n l. tt)
-safe-lift (base (given x)) = safe-node GIVEN x 0 (λ n l. tt)
-safe-lift (pow t) = safe-bind (safe-lift t) (λ x c l q. safe-node POWER x 0 (λ n k. omega arith))
-safe-lift (prod t u) = safe-bind (safe-lift t) (λ x c l q. safe-bind (safe-lift u) (λ y d k w. safe-node PRODUCT x y (λ n j. (omega arith, omega arith))))
+safe-lift (base bool) = safe-node BOOLEAN 0 0 (λ n l. (tt, λ _. refl))
+safe-lift (base int) = safe-node INTEGER 0 0 (λ n l. (tt, λ _. refl))
+safe-lift (base (given x)) = safe-node GIVEN x 0 (λ n l. (tt, λ _. refl))
+safe-lift (pow t) = safe-bind (safe-lift t) (λ x c l q. safe-node POWER x 0 (λ n k. (omega arith, λ _. refl)))
+safe-lift (prod t u) = safe-bind (safe-lift t) (λ x c l q. safe-bind (safe-lift u) (λ y d k w. safe-node PRODUCT x y (λ n j. ((omega arith, omega arith), λ e. cc))))
 
 safe-env : {b : ℕ} (e : Entry) → Safe b (fromEnv e) Below
 unfolding fromEnv
-safe-env lacks = safe-node UNKNOWN 0 0 (λ n l. tt)
+safe-env lacks = safe-node UNKNOWN 0 0 (λ n l. (tt, λ _. refl))
 safe-env (holds t) = safe-lift t
 
 -- ---- scripts
@@ -153,17 +153,17 @@ module _ (k b : ℕ) (args places : ℕ → ℕ) (inside : (i : ℕ) → leb 1 i
   play-in : (is : List Item) (n m c : ℕ) → b ≤ n → c ≡ n + m → scoped k m is ≡ true → Sound c (play args places n is)
   unfolding play scoped
   play-in [] n m c l e s = tt
-  play-in (an-unknown ∷ is) n m c l e s = (tt, play-in is n (suc m) (suc c) l (omega arith) s)
-  play-in (a-bool ∷ is) n m c l e s = (tt, play-in is n (suc m) (suc c) l (omega arith) s)
-  play-in (an-int ∷ is) n m c l e s = (tt, play-in is n (suc m) (suc c) l (omega arith) s)
+  play-in (an-unknown ∷ is) n m c l e s = ((tt, λ _. refl), play-in is n (suc m) (suc c) l (omega arith) s)
+  play-in (a-bool ∷ is) n m c l e s = ((tt, λ _. refl), play-in is n (suc m) (suc c) l (omega arith) s)
+  play-in (an-int ∷ is) n m c l e s = ((tt, λ _. refl), play-in is n (suc m) (suc c) l (omega arith) s)
   play-in (a-power x ∷ is) n m c l e s =
       let ox = ref-in n m l x (and-left (refOk k m x) (scoped k (suc m) is) s) in
-      (omega arith, play-in is n (suc m) (suc c) l (omega arith) (and-right (refOk k m x) (scoped k (suc m) is) s))
+      ((omega arith, λ _. refl), play-in is n (suc m) (suc c) l (omega arith) (and-right (refOk k m x) (scoped k (suc m) is) s))
   play-in (a-pair x y ∷ is) n m c l e s =
       let so = and-right (refOk k m x) (refOk k m y && scoped k (suc m) is) s in
       let ox = ref-in n m l x (and-left (refOk k m x) (refOk k m y && scoped k (suc m) is) s) in
       let oy = ref-in n m l y (and-left (refOk k m y) (scoped k (suc m) is) so) in
-      ((omega arith, omega arith), play-in is n (suc m) (suc c) l (omega arith) (and-right (refOk k m y) (scoped k (suc m) is) so))
+      (((omega arith, omega arith), λ e. cc), play-in is n (suc m) (suc c) l (omega arith) (and-right (refOk k m y) (scoped k (suc m) is) so))
   play-in (equal x y w ∷ is) n m c l e s =
       let so = and-right (refOk k m x) (refOk k m y && scoped k m is) s in
       let ox = ref-in n m l x (and-left (refOk k m x) (refOk k m y && scoped k m is) s) in
@@ -216,20 +216,20 @@ last-in n (links way x) h l = h
 
 safe-relation : {b : ℕ} (way : Way) (s t : ℕ) → s < b → t < b → Safe b (relation way s t) Below
 unfolding relation
-safe-relation forward s t h g = safe-bind (safe-node PRODUCT s t (λ n l. (omega arith, omega arith))) (λ x c l q. safe-node POWER x 0 (λ n k. omega arith))
-safe-relation backward s t h g = safe-bind (safe-node PRODUCT t s (λ n l. (omega arith, omega arith))) (λ x c l q. safe-node POWER x 0 (λ n k. omega arith))
+safe-relation forward s t h g = safe-bind (safe-node PRODUCT s t (λ n l. ((omega arith, omega arith), λ e. cc))) (λ x c l q. safe-node POWER x 0 (λ n k. (omega arith, λ _. refl)))
+safe-relation backward s t h g = safe-bind (safe-node PRODUCT t s (λ n l. ((omega arith, omega arith), λ e. cc))) (λ x c l q. safe-node POWER x 0 (λ n k. (omega arith, λ _. refl)))
 
 safe-fresh : {b : ℕ} → Safe b (unknown) Below
-safe-fresh = safe-node UNKNOWN 0 0 (λ n l. tt)
+safe-fresh = safe-node UNKNOWN 0 0 (λ n l. (tt, λ _. refl))
 
 safe-power : {b : ℕ} (x : ℕ) → x < b → Safe b (power x) Below
-safe-power x h = safe-node POWER x 0 (λ n l. omega arith)
+safe-power x h = safe-node POWER x 0 (λ n l. (omega arith, λ _. refl))
 
 safe-int : {b : ℕ} → Safe b (integer) Below
-safe-int = safe-node INTEGER 0 0 (λ n l. tt)
+safe-int = safe-node INTEGER 0 0 (λ n l. (tt, λ _. refl))
 
 safe-bool : {b : ℕ} → Safe b (boolean) Below
-safe-bool = safe-node BOOLEAN 0 0 (λ n l. tt)
+safe-bool = safe-node BOOLEAN 0 0 (λ n l. (tt, λ _. refl))
 
 mode-up : (b n : ℕ) (m : Mode) → b ≤ n → ModeIn b m → ModeIn n m
 mode-up b n loose l h = tt
@@ -263,7 +263,7 @@ module _ (Γ : Env) where
   safe-noteOf : {b : ℕ} (e : Entry) (x p : ℕ) → Safe b (noteOf Γ e x p) Nothing
   unfolding noteOf
   safe-noteOf (holds t) x p = safe-done tt (λ n l. tt)
-  safe-noteOf lacks x p = safe-bind (safe-name x p) (λ t c l q. safe-bind (safe-node GIVEN x 0 (λ n k. tt)) (λ g d k w. safe-bind (safe-power g w) (λ s f j v. safe-same t s p (omega arith) v)))
+  safe-noteOf lacks x p = safe-bind (safe-name x p) (λ t c l q. safe-bind (safe-node GIVEN x 0 (λ n k. (tt, λ _. refl))) (λ g d k w. safe-bind (safe-power g w) (λ s f j v. safe-same t s p (omega arith) v)))
 
   safe-notes : {b : ℕ} (t : Ty) (p : ℕ) → Safe b (notes Γ t p) Nothing
   unfolding notes
@@ -369,7 +369,7 @@ module _ (Γ : Env) where
   safe-products : {b : ℕ} (ts : List Target) (x : ℕ) → x < b → Safe b (products Γ ts x) Below
   unfolding products
   safe-products [] x h = safe-done x (λ n l. omega arith)
-  safe-products (t ∷ ts) x h = safe-bind (safe-target t) (λ y c l q. safe-bind (safe-node PRODUCT x y (λ n k. (omega arith, omega arith))) (λ z d k w. safe-products ts z w))
+  safe-products (t ∷ ts) x h = safe-bind (safe-target t) (λ y c l q. safe-bind (safe-node PRODUCT x y (λ n k. ((omega arith, omega arith), λ e. cc))) (λ z d k w. safe-products ts z w))
 
   safe-targets : {b : ℕ} (ts : List Target) → Safe b (targets-of Γ ts) AllIn
   unfolding targets-of
