@@ -2,10 +2,11 @@
 --
 -- `chains-short`: at every point of a walk (after any first part of its operations, run at any capacity inside the limits and any budget), to follow a reference
 -- costs c units only where 2^c is at most twice the count of nodes there. `sixteen-bindings`: so never more than 16, the capacity being 32,768 at most.
-use Prim.Native.Nat.{ℕ, zero, suc, _+_, _*_, _-_, _≤_, _<_}
+use Prim.Native.Nat.{ℕ, zero, suc, _+_, _*_, _-_, _^_, _≤_, _<_}
 use mathlib.Core.Path.{_≡_, refl, sym, _∙_, ap, subst}
 use mathlib.Core.List.{List, [], _∷_, _++_}
 use native.Mathlib.Omega.{arith}
+use native.Mathlib.Nat.{pow-le-pow-right}
 use native.Mathlib.Decide.{decLt}
 use lib.ListN.{length, length-replicate}
 use Rattle.meter.specs.Meter.{Out, spent, halt, done, full, M, Halts}
@@ -16,7 +17,7 @@ use Rattle.unification.specs.Arena.{U, resolve}
 use Rattle.unification.specs.Trees.{var}
 use Rattle.unification.specs.Ops.{Op, Bench, Ready, Sound, sound-split, nodes, exec, exec-full}
 use Rattle.unification.specs.Exec.{Counts, exec-counts}
-use Rattle.unification.specs.Short.{two, two-mono, exec-short}
+use Rattle.unification.specs.Short.{exec-short}
 use Rattle.walk.specs.Walk.{walked}
 use Rattle.walk.specs.Triple.{nodes-append}
 use Rattle.walk.specs.Verdict.{start}
@@ -60,8 +61,8 @@ module _ (Γ : Env) (f : Formula) (os qs : List Op) (parts : walked Γ f .ops �
           absurd (never-done (exec capacity os (start (zeros (3 * size Γ f)))) (z .0) (z .1) budget s left run)
       at (no l) = omega arith
 
-  pub chains-short : (t : ℕ) → t < s .count → (β p r : ℕ) → resolve (s .words) (s .count) t β ≡ done p r → (c : ℕ) × (c + r ≡ β) × (two c ≤ 2 * s .count)
-  unfolding start two
+  pub chains-short : (t : ℕ) → t < s .count → (β p r : ℕ) → resolve (s .words) (s .count) t β ≡ done p r → (c : ℕ) × (c + r ≡ β) × (2 ^ c ≤ 2 * s .count)
+  unfolding start
   chains-short t tl β p r h =
       let e = long in
       let w = part in
@@ -75,9 +76,8 @@ module _ (Γ : Env) (f : Formula) (os qs : List Op) (parts : walked Γ f .ops �
 
   -- within the limit of 32,768 nodes
   pub sixteen-bindings : (t : ℕ) → t < s .count → (β p r : ℕ) → resolve (s .words) (s .count) t β ≡ done p r → (c : ℕ) × (c + r ≡ β) × (c ≤ 16)
-  unfolding two
   sixteen-bindings t tl β p r h = let z = chains-short t tl β p r h in (z .0, z .1, at (z .0) (z .2) (decLt 16 (z .0)))
     where
-      at : (c : ℕ) → two c ≤ 2 * s .count → Dec (16 < c) → c ≤ 16
-      at c q (yes l) = let m = two-mono 17 c l in let e = counted in let k = few in absurd (omega arith)
+      at : (c : ℕ) → 2 ^ c ≤ 2 * s .count → Dec (16 < c) → c ≤ 16
+      at c q (yes l) = let m = pow-le-pow-right {n = 2} (omega arith) {i = 17} {j = c} l in let e = counted in let k = few in absurd (omega arith)
       at c q (no l) = omega arith

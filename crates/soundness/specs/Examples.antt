@@ -1,10 +1,16 @@
 -- The theorems at work: four of the auditor's cases, from the answer's number and bytes to what they say of the typings.
 -- After this file a reader has seen that the theorems' conditions can be met, and how each of them is used. One name, an empty
 -- environment, capacity 2,048, budget 1,000, an output of 1,000 bytes.
-use mathlib.Core.Path.{refl, ap}
+use Prim.Native.Nat.{ℕ}
+use mathlib.Core.Path.{_≡_, refl, sym, _∙_, ap}
 use mathlib.Core.Logic.{inl}
 use mathlib.Core.List.{List, [], _∷_}
 use native.Mathlib.Omega.{arith}
+use Rattle.meter.specs.Meter.{done}
+use Rattle.unification.specs.Arena.{leftBound}
+use Rattle.unification.specs.Ops.{Bench}
+use Rattle.unification.specs.Direction.{left-binds}
+use Rattle.walk.specs.Walk.{walked}
 use Rattle.formula.specs.Tree.{Formula, predicate, relational, free, atomic, bound, expression, binary, literal, slots, slots-pred, slots-of}
 use Rattle.formula.specs.Environment.{Env, lookup, Distinct, spellEntries}
 use Rattle.formula.specs.Spell.{spell, spell-pred, spell-formula, size, Placed, Placed-pred, Placed-formula}
@@ -13,11 +19,13 @@ use Rattle.formula_laws.specs.ExactEnvironment.{Fits-entries}
 use Rattle.typing.specs.Equations.{firstOf}
 use Rattle.typing.specs.Typings.{One, None, Several, index-excluded, excluded, excluded-of}
 use Rattle.inference.specs.Answer.{Problem, nameless, two, four, spellProblem, spellProblems, Answer, written}
-use Rattle.inference.specs.Infer.{inferOf}
+use Rattle.inference.specs.Finish.{Outcome, finish}
+use Rattle.inference.specs.Infer.{answer, inferOf}
+use Rattle.inference.specs.AnyDirection.{Leaves, outcome-run}
 use Rattle.inference.specs.Cases.{auditors-table}
 use Rattle.soundness.specs.Listing.{Lists}
 use Rattle.soundness.specs.Calls.{Spells}
-use Rattle.soundness.specs.Soundness.{typed-exactly, clash-exactly, untyped-exactly, excluded-none}
+use Rattle.soundness.specs.Soundness.{typed-exactly, clash-exactly, untyped-exactly, excluded-none, any-direction}
 
 abbrev nothing-held : Env
 nothing-held = lookup []
@@ -87,6 +95,20 @@ pairs-apart-none =
     let e = pairs-apart-listed .problems in
     clash-exactly (0x22 ∷ 0x00 ∷ 0x07 ∷ 0x00 ∷ 0x01 ∷ 0x00 ∷ 0x00 ∷ 0x04 ∷ 0x04 ∷ 0x07 ∷ 0x00 ∷ 0x03 ∷ 0x03 ∷ []) [] 1 2048 1000 1000 10240 [] pairs-apart pairs-apart-spelled (omega arith) refl .0
     (one-clash, pairs-apart-listed, inl (omega arith))
+
+-- case 6 once more, where of two unknowns always the left one is bound, as the Rust does: there is such a run, and what is found after it is the same list
+pub pairs-apart-left : (t : Bench) × Leaves nothing-held pairs-apart leftBound left-binds t × ((budget left : ℕ) (o : Outcome)
+    → finish nothing-held (walked nothing-held pairs-apart .row) (walked nothing-held pairs-apart .slots) t budget ≡ done o left
+    → answer (inferOf (0x22 ∷ 0x00 ∷ 0x07 ∷ 0x00 ∷ 0x01 ∷ 0x00 ∷ 0x00 ∷ 0x04 ∷ 0x04 ∷ 0x07 ∷ 0x00 ∷ 0x03 ∷ 0x03 ∷ []) [] 1 2048 1000 1000 10240 .steps) o .bytes ≡ spellProblems one-clash)
+pairs-apart-left =
+    let z = outcome-run nothing-held pairs-apart leftBound left-binds in
+    let e = pairs-apart-listed .problems in (
+      z .0,
+      z .1,
+      λ budget left o q. ap (λ (a : Answer). a .bytes) (sym (
+          any-direction (0x22 ∷ 0x00 ∷ 0x07 ∷ 0x00 ∷ 0x01 ∷ 0x00 ∷ 0x00 ∷ 0x04 ∷ 0x04 ∷ 0x07 ∷ 0x00 ∷ 0x03 ∷ 0x03 ∷ []) [] 1 2048 1000 1000 10240 [] pairs-apart pairs-apart-spelled (omega arith)
+          leftBound left-binds (z .0) (z .1) budget left o q)) ∙ pairs-apart-listed .spelt,
+    )
 
 -- ---- case 8, an index with no declaration: excluded, so there is none
 abbrev dangling : Formula

@@ -3,12 +3,13 @@
 -- `Ranked` says of an arena what ranks keep: along a binding from unknown to unknown the rank rises, and an unknown of rank r stands for 2^r of the n nodes or more.
 -- The empty arena is ranked, a node made keeps it (an unknown is made with rank 0), and so does every comparison that is answered or refused (`merge-ranked`, carried through by `unify-carries`).
 -- `follows-short`: there c bindings are followed from a reference only where 2^c ≤ 2 * n: with 2,048 nodes never more than 12, however long the chain of equalities.
-use Prim.Native.Nat.{ℕ, zero, suc, _+_, _-_, _*_, _≤_, _<_}
+use Prim.Native.Nat.{ℕ, zero, suc, _+_, _-_, _*_, _^_, _≤_, _<_}
 use mathlib.Core.Path.{_≡_, refl, sym, _∙_, ap, subst}
 use mathlib.Core.Logic.{_≢_}
 use mathlib.Core.Bool.{Bool, true, false, _&&_}
 use mathlib.Core.List.{List, [], _∷_}
 use native.Mathlib.Omega.{arith}
+use native.Mathlib.Nat.{pow-succ', pow-le-pow-right}
 use native.Mathlib.Decide.{ℕ-discrete, decLt}
 use lib.Dec.{eqb, ltb}
 use lib.ListN.{length, getD, set, length-set}
@@ -26,28 +27,7 @@ use Rattle.unification.specs.Ops.{Op, pay, make, compare, list, Bench, g
 use Rattle.unification.specs.Exec.{exec-nil, exec-unpaid, exec-paid, exec-made, exec-no-room, exec-compared, exec-listed}
 use Rattle.unification.specs.ByRule.{End, ends, Follows, at-root, outside, along}
 
--- ---- powers of two, and sums
-unfoldable pub two : ℕ → ℕ
-two zero = 1
-two (suc k) = 2 * two k
-
-two-next : (k : ℕ) → two (suc k) ≡ 2 * two k
-unfolding two
-two-next k = refl
-
-two-up : (d k j : ℕ) → d + k ≡ j → two k ≤ two j
-two-up zero k j e = let q : k ≡ j = omega arith in let h : two k ≡ two j = ap two q in omega arith
-two-up (suc d) k zero e = absurd (omega arith)
-two-up (suc d) k (suc j) e = let h = two-up d k j (omega arith) in let q = two-next j in omega arith
-
-pub two-mono : (a b : ℕ) → a ≤ b → two a ≤ two b
-two-mono a b l = two-up (b - a) a b (omega arith)
-
-two-pos : (k : ℕ) → 1 ≤ two k
-unfolding two
-two-pos zero = omega arith
-two-pos (suc k) = let h = two-pos k in omega arith
-
+-- ---- sums
 unfoldable pub sum : (ℕ → ℕ) → ℕ → ℕ
 sum f zero = 0
 sum f (suc k) = f k + sum f k
@@ -119,8 +99,8 @@ share (pair a b) k = 0
 share bad k = 0
 
 abbrev Stood : ℕ → Words → (ℕ → ℕ) → ℕ → Node → Type 0
-Stood n ws m x free = two (rankAt ws x) ≤ m x
-Stood n ws m x (link j) = (j < n) × (two (rankAt ws x) ≤ n) × (Var (nodeAt ws n j) → rankAt ws x < rankAt ws j)
+Stood n ws m x free = 2 ^ rankAt ws x ≤ m x
+Stood n ws m x (link j) = (j < n) × (2 ^ rankAt ws x ≤ n) × (Var (nodeAt ws n j) → rankAt ws x < rankAt ws j)
 Stood n ws m x (leaf p) = Unit {0}
 Stood n ws m x (power a) = Unit {0}
 Stood n ws m x (pair a b) = Unit {0}
@@ -144,16 +124,16 @@ module _ (n : ℕ) (ws : Words) (R : Ranked n ws) where
       let s = R .held in
       omega arith
 
-  stood-free : (x : ℕ) → x < n → nodeAt ws n x ≡ free → two (rankAt ws x) ≤ R .mass x
+  stood-free : (x : ℕ) → x < n → nodeAt ws n x ≡ free → 2 ^ rankAt ws x ≤ R .mass x
   stood-free x l e = subst (λ (k : Node). Stood n ws (R .mass) x k) e (R .stood x l)
 
-  stood-link : (x j : ℕ) → x < n → nodeAt ws n x ≡ link j → (j < n) × (two (rankAt ws x) ≤ n) × (Var (nodeAt ws n j) → rankAt ws x < rankAt ws j)
+  stood-link : (x j : ℕ) → x < n → nodeAt ws n x ≡ link j → (j < n) × (2 ^ rankAt ws x ≤ n) × (Var (nodeAt ws n j) → rankAt ws x < rankAt ws j)
   stood-link x j l e = subst (λ (k : Node). Stood n ws (R .mass) x k) e (R .stood x l)
 
 -- ---- one binding, of the unknown x to y; only the rank of y may have risen
 module _ (n : ℕ) (ws ws′ : Words) (R : Ranked n ws) (x y : ℕ) (xl : x < n) (yl : y < n) (ne : x ≢ y) (fx : nodeAt ws n x ≡ free) (ry : Root (nodeAt ws n y)) (B : Binds n ws x y ws′)
     (same : (z : ℕ) → z ≢ y → rankAt ws′ z ≡ rankAt ws z) (rise : rankAt ws y ≤ rankAt ws′ y)
-    (up : nodeAt ws n y ≡ free → rankAt ws x < rankAt ws′ y) (enough : nodeAt ws n y ≡ free → two (rankAt ws′ y) ≤ R .mass x + R .mass y) where
+    (up : nodeAt ws n y ≡ free → rankAt ws x < rankAt ws′ y) (enough : nodeAt ws n y ≡ free → 2 ^ rankAt ws′ y ≤ R .mass x + R .mass y) where
   mass′ : ℕ → ℕ
   mass′ z = pickℕ (eqb z y) (R .mass x + R .mass y) (R .mass z)
 
@@ -191,9 +171,9 @@ module _ (n : ℕ) (ws ws′ : Words) (R : Ranked n ws) (x y : ℕ) (xl : x < n)
   at-y bad r e = tt
 
   at-other : (z : ℕ) → z ≢ y → (nd : Node) → Stood n ws (R .mass) z nd → Stood n ws′ mass′ z nd
-  at-other z h free s = let m = mass-other z h in let r = ap two (same z h) in omega arith
+  at-other z h free s = let m = mass-other z h in let r = ap (λ (k : ℕ). 2 ^ k) (same z h) in omega arith
   at-other z h (link j) s =
-      let r = ap two (same z h) in
+      let r = ap (λ (k : ℕ). 2 ^ k) (same z h) in
       let q = same z h in
       let l = s .1 in
       let w = s .2 in
@@ -205,7 +185,7 @@ module _ (n : ℕ) (ws ws′ : Words) (R : Ranked n ws) (x y : ℕ) (xl : x < n)
 
   at-x : Stood n ws′ mass′ x (link y)
   at-x =
-      let r = ap two (same x ne) in
+      let r = ap (λ (k : ℕ). 2 ^ k) (same x ne) in
       let q = same x ne in
       let f = stood-free n ws R x xl fx in
       let g = part n ws R x xl fx in
@@ -272,14 +252,14 @@ module _ (n : ℕ) (ws : Words) (v t : ℕ) where
   not-level e f l = eqb-false (rankAt ws t) (rankAt ws v)
       (not-both (eqb (rankAt ws t) (rankAt ws v)) (ltb (rankAt ws t) 32) (sym (ap (λ (k : Node). unknown k && (eqb (rankAt ws t) (rankAt ws v) && ltb (rankAt ws t) 32)) f) ∙ e) (lt-ltb (rankAt ws t) 32 l))
 
-module _ (n : ℕ) (small : n < two 32) (ws : Words) (s : 3 * n ≤ length ws) (R : Ranked n ws) (v t : ℕ) (vl : v < n) (tl : t < n) (ne : v ≢ t) (fr : nodeAt ws n v ≡ free) (root : Root (nodeAt ws n t)) where
+module _ (n : ℕ) (small : n < 2 ^ 32) (ws : Words) (s : 3 * n ≤ length ws) (R : Ranked n ws) (v t : ℕ) (vl : v < n) (tl : t < n) (ne : v ≢ t) (fr : nodeAt ws n v ≡ free) (root : Root (nodeAt ws n t)) where
   few : nodeAt ws n t ≡ free → rankAt ws t < 32
   few e = at (decLt (rankAt ws t) 32)
     where
       at : Dec (rankAt ws t < 32) → rankAt ws t < 32
       at (yes l) = l
       at (no l) =
-          let p = two-mono 32 (rankAt ws t) (omega arith) in
+          let p = pow-le-pow-right {n = 2} (omega arith) {i = 32} {j = rankAt ws t} (omega arith) in
           let q = stood-free n ws R t tl e in
           let r = part n ws R t tl e in
           absurd (omega arith)
@@ -290,7 +270,7 @@ module _ (n : ℕ) (small : n < two 32) (ws : Words) (s : 3 * n ≤ length ws) (
       let l = below-less n ws v t e in
       let q = bind-rank ws t v v in
       let m = stood-free n ws R v vl fr in
-      let r = ap two q in
+      let r = ap (λ (k : ℕ). 2 ^ k) q in
       bound-ranked n ws (bindAt ws t v) R t v tl vl (λ z. ne (sym z)) f (subst (λ (k : Node). Root k) (sym fr) tt) (left-binds ws n v t s vl tl)
       (λ z h. bind-rank ws t v z) (omega arith) (λ _. omega arith) (λ _. omega arith)
 
@@ -310,14 +290,14 @@ module _ (n : ℕ) (small : n < two 32) (ws : Words) (s : 3 * n ≤ length ws) (
       let q : rankAt (bindAt us v t) t ≡ suc (rankAt ws t) = bind-rank us v t t ∙ ap (λ (k : Words). rankAt k t) u ∙ risen in
       let m = stood-free n ws R v vl fr in
       let m′ = stood-free n ws R t tl f in
-      let p = ap two q in
-      let p′ = two-next (rankAt ws t) in
-      let p″ = ap two w in
+      let p = ap (λ (k : ℕ). 2 ^ k) q in
+      let p′ = pow-succ' 2 (rankAt ws t) in
+      let p″ = ap (λ (k : ℕ). 2 ^ k) w in
       bound-ranked n ws (bindAt us v t) R v t vl tl ne fr root B
       (λ z h. bind-rank us v t z ∙ ap (λ (k : Words). rankAt k z) u ∙ unrisen z h) (omega arith) (λ _. omega arith) (λ _. omega arith)
   to-the-right-at e false g us u B =
       let q : rankAt (bindAt us v t) t ≡ rankAt ws t = bind-rank us v t t ∙ ap (λ (k : Words). rankAt k t) u in
-      let p = ap two q in
+      let p = ap (λ (k : ℕ). 2 ^ k) q in
       bound-ranked n ws (bindAt us v t) R v t vl tl ne fr root B
       (λ z h. bind-rank us v t z ∙ ap (λ (k : Words). rankAt k z) u) (omega arith)
       (λ f. (let a = not-below n ws v t e f in let b = not-level n ws v t g f (few f) in omega arith))
@@ -357,12 +337,12 @@ module _ (n : ℕ) (ws : Words) (k a b : ℕ) (s : 3 * suc n ≤ length ws) (i :
   rank-new = push-second ws n k a b s
 
   old-stood : (z : ℕ) → z < n → (nd : Node) → Stood n ws (R .mass) z nd → Stood (suc n) ws″ massN z nd
-  old-stood z l free h = let m = massN-old z l in let r = ap two (rank-old z l) in omega arith
+  old-stood z l free h = let m = massN-old z l in let r = ap (λ (k : ℕ). 2 ^ k) (rank-old z l) in omega arith
   old-stood z l (link j) h =
       let jl = h .0 in
       let q = h .1 in
       let w = h .2 in
-      let r = ap two (rank-old z l) in
+      let r = ap (λ (k : ℕ). 2 ^ k) (rank-old z l) in
       let r′ = rank-old z l in
       let r″ = rank-old j jl in
       (omega arith, omega arith, λ v. (let g = w (subst (λ (c : Node). Var c) (node-push-old ws n k a b s j jl) v) in omega arith))
@@ -372,8 +352,7 @@ module _ (n : ℕ) (ws : Words) (k a b : ℕ) (s : 3 * suc n ≤ length ws) (i :
   old-stood z l bad h = tt
 
   new-stood : (nd : Node) → decode k a b ≡ nd → Inside n nd → Stood (suc n) ws″ massN n nd
-  unfolding two
-  new-stood free e j = let m = massN-new in let r : two (rankAt ws″ n) ≡ two 0 = ap two (rank-new ∙ i .1 e) in omega arith
+  new-stood free e j = let m = massN-new in let r : 2 ^ rankAt ws″ n ≡ 2 ^ 0 = ap (λ (k : ℕ). 2 ^ k) (rank-new ∙ i .1 e) in omega arith
   new-stood (link x) e j = absurd j
   new-stood (leaf p) e j = tt
   new-stood (power x) e j = tt
@@ -415,7 +394,7 @@ empty-ranked : (ws : Words) → Ranked 0 ws
 unfolding sum
 empty-ranked ws = record { mass = λ x. 0; stood = λ x q. absurd (omega arith); held = omega arith }
 
-pub reached-ranked : {n : ℕ} {ws : Words} → Reached n ws → n < two 32 → Ranked n ws
+pub reached-ranked : {n : ℕ} {ws : Words} → Reached n ws → n < 2 ^ 32 → Ranked n ws
 reached-ranked (empty ws) l = empty-ranked ws
 reached-ranked (made {n = n} {ws = ws} k a b i s r) l = made-ranked n ws k a b s i (reached-ranked r (omega arith))
 reached-ranked (called {n = n} {ws = ws} a b β r) l =
@@ -426,8 +405,8 @@ reached-ranked (called {n = n} {ws = ws} a b β r) l =
 -- ---- how far a reference is from its end
 module _ (n : ℕ) (ws : Words) (R : Ranked n ws) where
   abbrev Chain : ℕ → ℕ → Node → Type 0
-  Chain t c free = two (rankAt ws t + c) ≤ 2 * n
-  Chain t c (link j) = two (rankAt ws t + c) ≤ 2 * n
+  Chain t c free = 2 ^ (rankAt ws t + c) ≤ 2 * n
+  Chain t c (link j) = 2 ^ (rankAt ws t + c) ≤ 2 * n
   Chain t c (leaf p) = c ≡ 0
   Chain t c (power x) = c ≡ 0
   Chain t c (pair x y) = c ≡ 0
@@ -438,7 +417,7 @@ module _ (n : ℕ) (ws : Words) (R : Ranked n ws) where
       let p = stood-free n ws R t l e in
       let r = part n ws R t l e in
       let z : rankAt ws t + 0 ≡ rankAt ws t = omega arith in
-      let w = ap two z in
+      let w = ap (λ (k : ℕ). 2 ^ k) z in
       omega arith
   at-end t l (link j) e q = absurd q
   at-end t l (leaf p) e q = refl
@@ -446,17 +425,20 @@ module _ (n : ℕ) (ws : Words) (R : Ranked n ws) where
   at-end t l (pair x y) e q = refl
   at-end t l bad e q = absurd q
 
-  -- one binding more
-  further : (t j c : ℕ) → two (rankAt ws t) ≤ n → (nd : Node) → (Var nd → rankAt ws t < rankAt ws j) → Chain j c nd → two (rankAt ws t + suc c) ≤ 2 * n
-  further t j c l free up h = let q = up tt in let m = two-mono (rankAt ws t + suc c) (rankAt ws j + c) (omega arith) in omega arith
-  further t j c l (link x) up h = let q = up tt in let m = two-mono (rankAt ws t + suc c) (rankAt ws j + c) (omega arith) in omega arith
-  further t j c l (leaf p) up h = last t c l h
-    where
-      last : (t c : ℕ) → two (rankAt ws t) ≤ n → c ≡ 0 → two (rankAt ws t + suc c) ≤ 2 * n
-      last t c l h = let e : rankAt ws t + suc c ≡ suc (rankAt ws t) = omega arith in let w = ap two e in let z = two-next (rankAt ws t) in omega arith
-  further t j c l (power x) up h = let e : rankAt ws t + suc c ≡ suc (rankAt ws t) = omega arith in let w = ap two e in let z = two-next (rankAt ws t) in omega arith
-  further t j c l (pair x y) up h = let e : rankAt ws t + suc c ≡ suc (rankAt ws t) = omega arith in let w = ap two e in let z = two-next (rankAt ws t) in omega arith
-  further t j c l bad up h = let e : rankAt ws t + suc c ≡ suc (rankAt ws t) = omega arith in let w = ap two e in let z = two-next (rankAt ws t) in omega arith
+  -- one binding more: to a node that is no unknown, or up in rank
+  past-all : (t c : ℕ) → 2 ^ rankAt ws t ≤ n → c ≡ 0 → 2 ^ (rankAt ws t + suc c) ≤ 2 * n
+  past-all t c l h = let e : rankAt ws t + suc c ≡ suc (rankAt ws t) = omega arith in let w = ap (λ (k : ℕ). 2 ^ k) e in let z = pow-succ' 2 (rankAt ws t) in omega arith
+
+  up-one : (t j c : ℕ) → rankAt ws t < rankAt ws j → 2 ^ (rankAt ws j + c) ≤ 2 * n → 2 ^ (rankAt ws t + suc c) ≤ 2 * n
+  up-one t j c l h = let m = pow-le-pow-right {n = 2} (omega arith) {i = rankAt ws t + suc c} {j = rankAt ws j + c} (omega arith) in omega arith
+
+  further : (t j c : ℕ) → 2 ^ rankAt ws t ≤ n → (nd : Node) → (Var nd → rankAt ws t < rankAt ws j) → Chain j c nd → 2 ^ (rankAt ws t + suc c) ≤ 2 * n
+  further t j c l free up h = up-one t j c (up tt) h
+  further t j c l (link x) up h = up-one t j c (up tt) h
+  further t j c l (leaf p) up h = past-all t c l h
+  further t j c l (power x) up h = past-all t c l h
+  further t j c l (pair x y) up h = past-all t c l h
+  further t j c l bad up h = past-all t c l h
 
   chained : {t c : ℕ} {e : End (ℕ × Node)} → t < n → Follows ws n t e c → Chain t c (nodeAt ws n t)
   chained l (at-root {t} {nd} e q) = subst (λ (k : Node). Chain t 0 k) (sym e) (at-end t l nd e q)
@@ -465,17 +447,16 @@ module _ (n : ℕ) (ws : Words) (R : Ranked n ws) where
       let w = stood-link n ws R t j l e in
       subst (λ (k : Node). Chain t (suc c) k) (sym e) (further t j c (w .1) (nodeAt ws n j) (w .2) (chained (w .0) f))
 
-  bounded : (t c : ℕ) → t < n → (nd : Node) → Chain t c nd → two c ≤ 2 * n
-  unfolding two
-  bounded t c l free h = let m = two-mono c (rankAt ws t + c) (omega arith) in omega arith
-  bounded t c l (link j) h = let m = two-mono c (rankAt ws t + c) (omega arith) in omega arith
-  bounded t c l (leaf p) h = let m : two c ≡ two 0 = ap two h in omega arith
-  bounded t c l (power x) h = let m : two c ≡ two 0 = ap two h in omega arith
-  bounded t c l (pair x y) h = let m : two c ≡ two 0 = ap two h in omega arith
-  bounded t c l bad h = let m : two c ≡ two 0 = ap two h in omega arith
+  bounded : (t c : ℕ) → t < n → (nd : Node) → Chain t c nd → 2 ^ c ≤ 2 * n
+  bounded t c l free h = let m = pow-le-pow-right {n = 2} (omega arith) {i = c} {j = rankAt ws t + c} (omega arith) in omega arith
+  bounded t c l (link j) h = let m = pow-le-pow-right {n = 2} (omega arith) {i = c} {j = rankAt ws t + c} (omega arith) in omega arith
+  bounded t c l (leaf p) h = let m : 2 ^ c ≡ 2 ^ 0 = ap (λ (k : ℕ). 2 ^ k) h in omega arith
+  bounded t c l (power x) h = let m : 2 ^ c ≡ 2 ^ 0 = ap (λ (k : ℕ). 2 ^ k) h in omega arith
+  bounded t c l (pair x y) h = let m : 2 ^ c ≡ 2 ^ 0 = ap (λ (k : ℕ). 2 ^ k) h in omega arith
+  bounded t c l bad h = let m : 2 ^ c ≡ 2 ^ 0 = ap (λ (k : ℕ). 2 ^ k) h in omega arith
 
   -- c bindings are followed from t only where 2^c ≤ 2 * n
-  pub follows-short : {t c : ℕ} {e : End (ℕ × Node)} → t < n → Follows ws n t e c → two c ≤ 2 * n
+  pub follows-short : {t c : ℕ} {e : End (ℕ × Node)} → t < n → Follows ws n t e c → 2 ^ c ≤ 2 * n
   follows-short {t} {c} l f = bounded t c l (nodeAt ws n t) (chained l f)
 
   -- what resolve pays, as bindings followed
@@ -503,11 +484,11 @@ module _ (n : ℕ) (ws : Words) (R : Ranked n ws) where
   walked zero β l t p r h = absurd (omega arith)
   walked (suc k) β l t p r h = walked-node β p r t (λ b j q. walked k b (omega arith) j p r) (nodeAt ws n t) refl (sym (ap (λ (m : M U ℕ). m β) (resolve-eq ws n t)) ∙ h)
 
-  ranked-short : (t : ℕ) → t < n → (β p r : ℕ) → resolve ws n t β ≡ done p r → (c : ℕ) × (c + r ≡ β) × (two c ≤ 2 * n)
+  ranked-short : (t : ℕ) → t < n → (β p r : ℕ) → resolve ws n t β ≡ done p r → (c : ℕ) × (c + r ≡ β) × (2 ^ c ≤ 2 * n)
   ranked-short t l β p r h = let w = walked (suc β) β (omega arith) t p r h in (w .0, w .1, follows-short l (w .2 .1))
 
 -- KEY: of every arena reached, with fewer than 2^32 nodes: to follow a reference costs c units only where 2^c ≤ 2 * n
-pub resolve-short : {n : ℕ} {ws : Words} → Reached n ws → n < two 32 → (t : ℕ) → t < n → (β p r : ℕ) → resolve ws n t β ≡ done p r → (c : ℕ) × (c + r ≡ β) × (two c ≤ 2 * n)
+pub resolve-short : {n : ℕ} {ws : Words} → Reached n ws → n < 2 ^ 32 → (t : ℕ) → t < n → (β p r : ℕ) → resolve ws n t β ≡ done p r → (c : ℕ) × (c + r ≡ β) × (2 ^ c ≤ 2 * n)
 resolve-short {n} {ws} H l t tl β p r h = ranked-short n ws (reached-ranked H l) t tl β p r h
 
 -- ---- a list of operations: ranked before it, ranked after it
@@ -518,9 +499,9 @@ module _ (cap : ℕ) where
   Fine (done s r) = Ranked (s .count) (s .words)
 
   abbrev Ran : List Op → Type 0
-  Ran os = (s : Bench) → Sound (s .count) os → s .count + nodes os < two 32 → 3 * (s .count + nodes os) ≤ length (s .words) → Ranked (s .count) (s .words) → (β : ℕ) → Fine (exec cap os s β)
+  Ran os = (s : Bench) → Sound (s .count) os → s .count + nodes os < 2 ^ 32 → 3 * (s .count + nodes os) ≤ length (s .words) → Ranked (s .count) (s .words) → (β : ℕ) → Fine (exec cap os s β)
 
-  ran-make : (k a b : ℕ) (os : List Op) → Ran os → (s : Bench) → Proper (s .count) k a b → Sound (suc (s .count)) os → suc (s .count) + nodes os < two 32
+  ran-make : (k a b : ℕ) (os : List Op) → Ran os → (s : Bench) → Proper (s .count) k a b → Sound (suc (s .count)) os → suc (s .count) + nodes os < 2 ^ 32
       → 3 * (suc (s .count) + nodes os) ≤ length (s .words) → Ranked (s .count) (s .words) → (β : ℕ) → Dec (s .count < cap) → Fine (exec cap (make k a b ∷ os) s β)
   unfolding grow
   ran-make k a b os rec s i so l room R β (yes q) =
@@ -532,11 +513,11 @@ module _ (cap : ℕ) where
   abbrev Still : ℕ → Words → Words → Type 0
   Still n ws us = (length us ≡ length ws) × Ranked n us
 
-  compared : (n : ℕ) → n < two 32 → (ws : Words) → 3 * n ≤ length ws → Ranked n ws → (a b β : ℕ) → Still n ws (after (unify n (ws, a, b) β))
+  compared : (n : ℕ) → n < 2 ^ 32 → (ws : Words) → 3 * n ≤ length ws → Ranked n ws → (a b β : ℕ) → Still n ws (after (unify n (ws, a, b) β))
   compared n l ws s R a b β = unify-carries n (λ us. Still n ws us)
       (λ us h v t vl tl ne fr root. (length-merge us n v t ∙ h .0, merge-ranked n l us (rw (h .0) s) (h .1) v t vl tl ne fr root)) ws (refl, R) a b β
 
-  ran-on : (p : ℕ) (os : List Op) → Ran os → (s : Bench) → Sound (s .count) os → s .count + nodes os < two 32 → 3 * (s .count + nodes os) ≤ length (s .words)
+  ran-on : (p : ℕ) (os : List Op) → Ran os → (s : Bench) → Sound (s .count) os → s .count + nodes os < 2 ^ 32 → 3 * (s .count + nodes os) ≤ length (s .words)
       → (o : Out Words Answer) → Still (s .count) (s .words) (after o) → Fine (on (forgetE o) (λ x. exec cap os (learn s p x)))
   unfolding on forgetE after learn
   ran-on p os rec s so l room (spent e) h = tt
@@ -555,8 +536,8 @@ module _ (cap : ℕ) where
   exec-ranked (list q p ∷ os) s so l room R β = subst (λ (o : Out U Bench). Fine o) (sym (exec-listed cap s os q p β)) (exec-ranked os (complain s q p) so l room R β)
 
   -- KEY: run from an empty arena, at every capacity and budget: to follow a reference then costs c units only where 2^c ≤ 2 * n
-  pub exec-short : (os : List Op) (s : Bench) → s .count ≡ 0 → Sound 0 os → nodes os < two 32 → 3 * nodes os ≤ length (s .words) → (β : ℕ) (s′ : Bench) (left : ℕ) → exec cap os s β ≡ done s′ left
-      → (t : ℕ) → t < s′ .count → (β′ p r : ℕ) → resolve (s′ .words) (s′ .count) t β′ ≡ done p r → (c : ℕ) × (c + r ≡ β′) × (two c ≤ 2 * s′ .count)
+  pub exec-short : (os : List Op) (s : Bench) → s .count ≡ 0 → Sound 0 os → nodes os < 2 ^ 32 → 3 * nodes os ≤ length (s .words) → (β : ℕ) (s′ : Bench) (left : ℕ) → exec cap os s β ≡ done s′ left
+      → (t : ℕ) → t < s′ .count → (β′ p r : ℕ) → resolve (s′ .words) (s′ .count) t β′ ≡ done p r → (c : ℕ) × (c + r ≡ β′) × (2 ^ c ≤ 2 * s′ .count)
   exec-short os s z so l room β s′ left e t tl β′ p r h =
       let R₀ : Ranked (s .count) (s .words) = subst (λ (n : ℕ). Ranked n (s .words)) (sym z) (empty-ranked (s .words)) in
       let R : Ranked (s′ .count) (s′ .words) = subst (λ (o : Out U Bench). Fine o) e (exec-ranked os s (subst (λ (n : ℕ). Sound n os) (sym z) so) (omega arith) (omega arith) R₀ β) in

@@ -18,13 +18,31 @@ fn numbered(letter: &str, number: usize) -> workbench::Expression {
 
 /// x0 = x1 ∧ x1 = x2 ∧ .. of so many equalities, and the last name an integer; or each equality the other way round.
 fn chain(equalities: usize, reversed: bool) -> Formula {
+    reused_chain(equalities, reversed, 0)
+}
+
+/// The same chain, whose first and last name are then compared again and again.
+fn reused_chain(equalities: usize, reversed: bool, again: usize) -> Formula {
     let equal = |n| {
         let (left, right) = (numbered("x", n), numbered("x", n + 1));
         if reversed { right.equals(left) } else { left.equals(right) }
     };
     let mut all: Vec<Predicate> = (0..equalities).map(equal).collect();
+    all.extend((0..again).map(|_| numbered("x", 0).equals(numbered("x", equalities))));
     all.push(numbered("x", equalities).is_in(integers()));
     Predicate::And(all).into()
+}
+
+/// x0 = x1 ∧ x0 = x2 ∧ .. of so many equalities, and the last name an integer.
+fn star(equalities: usize) -> Formula {
+    let mut all: Vec<Predicate> = (1..=equalities).map(|n| numbered("x", 0).equals(numbered("x", n))).collect();
+    all.push(numbered("x", equalities).is_in(integers()));
+    Predicate::And(all).into()
+}
+
+/// A formula whose names no environment holds.
+fn unheld(title: &'static str, formula: Formula) -> Measured {
+    Measured { title, formula, environment: Environment::new() }
 }
 
 pub fn all() -> Vec<Measured> {
@@ -43,11 +61,7 @@ pub fn all() -> Vec<Measured> {
     let fixed = || name("rounding").is_in(name("PERIOD").total_functions(integers()));
 
     vec![
-        Measured {
-            title: "case 1 (x ∈ ℤ)",
-            formula: name("x").is_in(integers()).into(),
-            environment: Environment::new(),
-        },
+        unheld("case 1 (x ∈ ℤ)", name("x").is_in(integers()).into()),
         Measured {
             title: "the ledger rule",
             formula: fixed().and(booked("t", "booked")).into(),
@@ -58,15 +72,21 @@ pub fn all() -> Vec<Measured> {
             formula: Predicate::And((0..100).map(|n| numbered("x", n).is_in("PERIOD")).collect()).into(),
             environment: sets(),
         },
-        Measured { title: "chain of 200 equalities", formula: chain(200, false), environment: Environment::new() },
-        Measured { title: "the same, reversed", formula: chain(200, true), environment: Environment::new() },
-        Measured {
-            title: "sum of 100 products",
-            formula: name("total")
+        unheld("chain of 50 equalities", chain(50, false)),
+        unheld("chain of 50, reversed", chain(50, true)),
+        unheld("chain of 200 equalities", chain(200, false)),
+        unheld("chain of 200, reversed", chain(200, true)),
+        unheld("chain of 255 equalities", chain(255, false)),
+        unheld("chain of 255, reversed", chain(255, true)),
+        unheld("chain of 255, its ends compared 250 times more", reused_chain(255, false, 250)),
+        unheld("the same, reversed", reused_chain(255, true, 250)),
+        unheld("one name equal to each of 255", star(255)),
+        unheld(
+            "sum of 100 products",
+            name("total")
                 .equals(sum((0..100).map(|n| numbered("a", n).times(numbered("b", n).plus(literal(1))))))
                 .into(),
-            environment: Environment::new(),
-        },
+        ),
         Measured {
             title: "60 compositions",
             formula: name("all")
@@ -96,13 +116,9 @@ pub fn all() -> Vec<Measured> {
             .into(),
             environment: sets(),
         },
-        Measured {
-            title: "40 clashes",
-            formula: Predicate::And(
-                (0..40).map(|n| numbered("x", n).plus(literal(1)).is_in(numbered("x", n))).collect(),
-            )
-            .into(),
-            environment: Environment::new(),
-        },
+        unheld(
+            "40 clashes",
+            Predicate::And((0..40).map(|n| numbered("x", n).plus(literal(1)).is_in(numbered("x", n))).collect()).into(),
+        ),
     ]
 }
