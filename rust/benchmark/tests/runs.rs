@@ -12,16 +12,24 @@ fn quickly() {
         return;
     }
     for title in [
-        "case 1",
+        "case 1 (x ∈ ℤ)",
         "100 memberships",
-        "chain of 200",
-        "reversed",
-        "products",
+        "chain of 50 equalities",
+        "chain of 50, reversed",
+        "chain of 200 equalities",
+        "chain of 200, reversed",
+        "chain of 255 equalities",
+        "chain of 255, reversed",
+        "chain of 255, its ends compared 250 times more",
+        "the same, reversed",
+        "one name equal to each of 255",
+        "sum of 100 products",
         "60 compositions",
-        "quantified",
-        "partition of 80",
+        "40 quantified applications",
+        "a partition of 80",
     ] {
-        assert_eq!(text.lines().filter(|line| line.starts_with('|') && line.contains(title)).count(), 1, "{title}");
+        let row = format!("| {title} |");
+        assert_eq!(text.lines().filter(|line| line.starts_with(&row)).count(), 1, "{title}");
     }
     // Without the archive nothing is called a measurement of the port.
     assert_eq!(text.contains("NOT a measurement of the port"), !port::PROVED);

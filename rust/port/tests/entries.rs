@@ -51,6 +51,44 @@ fn empty_slices() {
     assert_eq!(write_text(&[0x41], &[], &mut [], 1), Answer { number: 2, place: 0, length: 0, steps: 0 });
 }
 
+/// One equality for each pair of names, and one of a name with 3, in a conjunction.
+fn equalities(pairs: impl Iterator<Item = (u16, u16)>, integer: u16) -> Vec<u8> {
+    let mut formula = vec![0x24, 0, 0];
+    let mut count: u16 = 1;
+    for (left, right) in pairs {
+        formula.extend([0x22, 0x00, 0x01]);
+        formula.extend(left.to_le_bytes());
+        formula.push(0x01);
+        formula.extend(right.to_le_bytes());
+        count += 1;
+    }
+    formula.extend([0x22, 0x00, 0x01]);
+    formula.extend(integer.to_le_bytes());
+    formula.push(0x03);
+    formula[1..3].copy_from_slice(&count.to_le_bytes());
+    formula
+}
+
+/// Some 15 units a name, however the chain of 255 equalities lies: nothing grows with the square of its length. One unit less is refused.
+#[test]
+fn chains_cost_what_their_length_is() {
+    let steps = |formula: &[u8]| {
+        let mut output = vec![0; 8_192];
+        let answer = infer(formula, &[], 256, u64::MAX, &mut output);
+        assert_eq!(answer.number, 0);
+        assert_eq!(infer(formula, &[], 256, answer.steps, &mut output), answer);
+        assert_eq!(infer(formula, &[], 256, answer.steps - 1, &mut output).number, 7);
+        both(formula, &[], 256, CAPACITY, u64::MAX, 8_192, work_words(CAPACITY) as usize);
+        answer.steps
+    };
+    let forward = (0..255).map(|n| (n, n + 1));
+    assert_eq!(steps(&equalities(forward.clone(), 255)), 3_834, "x0 = x1, x1 = x2, ..");
+    assert_eq!(steps(&equalities(forward.clone().map(|(left, right)| (right, left)), 0)), 3_834, "x1 = x0, x2 = x1, ..");
+    assert_eq!(steps(&equalities(forward.rev(), 255)), 3_834, "x254 = x255, x253 = x254, ..");
+    assert_eq!(steps(&equalities((1..256).map(|n| (0, n)), 0)), 3_836, "x0 = x1, x0 = x2, ..");
+    assert_eq!(steps(&equalities((1..256).map(|n| (n, 0)), 0)), 3_326, "x1 = x0, x2 = x0, ..");
+}
+
 /// The same question to both, in dirty memory.
 fn both(formula: &[u8], environment: &[u8], names: u32, capacity: u32, budget: u64, room: usize, words: usize) {
     let (mut output, mut expected_output) = (vec![0xAA; room], vec![0xAA; room]);
