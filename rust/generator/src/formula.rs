@@ -1,6 +1,7 @@
 //! Formulas under environments. A plan gives every name a type; a formula is then made from the type that is wanted at each
 //! place, and, as the style has it, here and there from another type, or from none.
 
+use crate::web::web;
 use crate::{damage, Case, Rng, Ty};
 
 /// How a case is made.
@@ -12,17 +13,20 @@ pub enum Style {
     Broken,
     /// Any record under any other.
     Wild,
+    /// Equalities and memberships over many names without a type.
+    Web,
     /// One of the others, its bytes damaged.
     Damaged,
     /// Bytes of the record kinds, in any order.
     Bytes,
 }
 
-pub const STYLES: [Style; 5] = [Style::Planned, Style::Broken, Style::Wild, Style::Damaged, Style::Bytes];
+pub const STYLES: [Style; 6] = [Style::Planned, Style::Broken, Style::Wild, Style::Web, Style::Damaged, Style::Bytes];
 
 /// A case of a style.
 pub fn case(rng: &mut Rng, style: Style) -> Case {
-    let names = 1 + rng.below(6) as u16;
+    let most = if style == Style::Web { 40 } else { 6 };
+    let names = 1 + rng.below(most) as u16;
     let fuel = match rng.below(12) {
         0..=3 => 1 + rng.below(6),
         4..=8 => 6 + rng.below(20),
@@ -38,6 +42,7 @@ pub fn case_sized(rng: &mut Rng, style: Style, names: u16, fuel: usize) -> Case 
         Style::Planned => (0, 0),
         Style::Broken => (1 + rng.below(12) as u32, rng.below(8) as u32),
         Style::Wild => (0, 100),
+        Style::Web => return web(rng, names, fuel),
         Style::Damaged => (rng.below(6) as u32, rng.below(10) as u32),
         Style::Bytes => return bytes(rng, names),
     };

@@ -1,6 +1,7 @@
 //! Inputs from a seed: formulas under environments, type texts, and the same damaged.
 //!
 //! - [`formula`]: typable by plan, with some of the plan broken, or of any shape; and bytes damaged or of any kind.
+//! - [`web`]: equalities and memberships over many names without a type.
 //! - [`text`]: type texts, tables and type records.
 //! - [`exhaustive`]: every short byte string, every operator over every pair of leaves, every limit from both sides.
 //!
@@ -9,6 +10,7 @@
 pub mod exhaustive;
 pub mod formula;
 pub mod text;
+pub mod web;
 
 /// A formula under an environment, with the count of names.
 #[derive(Debug, Clone, PartialEq, Eq)]
