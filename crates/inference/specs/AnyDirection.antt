@@ -3,19 +3,18 @@
 -- `outcome-found`: let a formula's operations be run by the unifier's rules in any direction, that of the Rust (which binds the left one) or another, and let the
 -- finish be asked over the arena that this leaves. From some budget on it answers, and what it answers is `outcome`, the one that `inferOf` gives: the same types, or
 -- the same problems in the same order at the same places. `outcome-run`: there is such a run. (What may differ is the price.)
-use Prim.Native.Nat.{ℕ, zero, suc, _+_, _*_, _≤_, _<_}
+use Prim.Native.Nat.{ℕ, _+_, _*_, _<_}
 use mathlib.Core.Path.{_≡_, refl, sym, _∙_, ap, ap₂, subst}
 use mathlib.Core.List.{List, [], _∷_, _++_}
 use native.Mathlib.Omega.{arith}
-use lib.ListN.{length}
-use Rattle.meter.specs.Meter.{Out, done, M, on, _>>=_, Exact, exact-map}
+use Rattle.meter.specs.Meter.{Out, done, on, _>>=_, Exact, exact-map}
 use Rattle.types.specs.Ty.{bool, Ty, base}
 use Rattle.formula.specs.Environment.{Env}
 use Rattle.formula.specs.Tree.{Formula}
 use Rattle.unification.specs.Arena.{U, nodeAt, Direction}
 use Rattle.unification.specs.Trees.{var}
 use Rattle.unification.specs.Good.{Assignment, Admits, Good, extend, extend-admits}
-use Rattle.unification.specs.Ops.{Bench, Ran, nodes, exec}
+use Rattle.unification.specs.Ops.{Bench, Ran, exec}
 use Rattle.unification.specs.Shapes.{Same}
 use Rattle.unification.specs.Direction.{OneBinding}
 use Rattle.unification.specs.Runs.{Runs, over, some-run, every-run}
@@ -24,9 +23,9 @@ use Rattle.walk.specs.Walk.{walked}
 use Rattle.walk.specs.Safe.{SlotsIn}
 use Rattle.walk.specs.Verdict.{start, walk-runs}
 use Rattle.inference.specs.Answer.{Problem}
-use Rattle.inference.specs.Finish.{Finding, found, unsolved, Question, Findings, noted, names, slots, Outcome, failed, settled, walkProblems, finish}
+use Rattle.inference.specs.Finish.{Finding, found, unsolved, Question, Findings, noted, names, slots, Outcome, settled, walkProblems, finish}
 use Rattle.inference.specs.Infer.{zeros, concluded}
-use Rattle.inference.specs.Rows.{Every, found-asked}
+use Rattle.inference.specs.Rows.{found-asked}
 use Rattle.inference.specs.Conclude.{Judge, Told, told-none, told, SlotsTold, Finished, finish-exact, size, safe, finished, long}
 use Rattle.inference.specs.Budget.{outcome, outcome-only}
 

@@ -2,9 +2,9 @@
 --
 -- `chains-short`: at every point of a walk (after any first part of its operations, run at any capacity inside the limits and any budget), to follow a reference
 -- costs c units only where 2^c is at most twice the count of nodes there. `sixteen-bindings`: so never more than 16, the capacity being 32,768 at most.
-use Prim.Native.Nat.{ℕ, zero, suc, _+_, _*_, _-_, _^_, _≤_, _<_}
+use Prim.Native.Nat.{ℕ, _+_, _*_, _-_, _^_, _≤_, _<_}
 use mathlib.Core.Path.{_≡_, refl, sym, _∙_, ap, subst}
-use mathlib.Core.List.{List, [], _∷_, _++_}
+use mathlib.Core.List.{List, _++_}
 use native.Mathlib.Omega.{arith}
 use native.Mathlib.Nat.{pow-le-pow-right}
 use native.Mathlib.Decide.{decLt}

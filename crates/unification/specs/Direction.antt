@@ -14,16 +14,16 @@ use native.Mathlib.Decide.{ℕ-discrete}
 use lib.Dec.{eqb}
 use lib.ListN.{length}
 use borrow.Author.Tests.{eq-eqb, ne-eqb}
-use Rattle.meter.specs.Meter.{Out, done, exact-done}
-use Rattle.types.specs.Ty.{Atom, bool, int, given, Ty, base, pow, prod}
-use Rattle.unification.specs.Arena.{Node, free, link, leaf, power, pair, bad, Words, U, nodeAt, Direction, mergeAt, leftBound, occurs, Verdict, unified, mismatch, circular, Meeting, bindLeft, bindRight, agree, clash, down, both, sameAtom, verdictOf, meet}
-use Rattle.unification.specs.Trees.{Tm, var, has, size}
+use Rattle.meter.specs.Meter.{Out, exact-done}
+use Rattle.types.specs.Ty.{Atom, bool, int, given, Ty, base, pow}
+use Rattle.unification.specs.Arena.{Node, free, link, leaf, power, pair, bad, Words, U, nodeAt, Direction, mergeAt, leftBound, Verdict, unified, mismatch, circular, Meeting, bindLeft, bindRight, agree, clash, down, both, sameAtom, verdictOf, meet}
+use Rattle.unification.specs.Trees.{var, has, size}
 use Rattle.unification.specs.Good.{Assignment, Says, Fits, Good, Root, Step, good-ind, extend, extend-admits, extend-free, length-bind, node-bind-same, node-bind-other}
 use Rattle.unification.specs.Merge.{Merged, to-right, merged}
 use Rattle.unification.specs.Readers.{occurs-exact}
 use Rattle.unification.specs.Unifies.{Allows, Outcome, kept-refl, outcome-map, never, merging, left-half, right-half}
-use Rattle.unification.specs.ByRule.{End, ends, Follows, at-root, along, Occurs, Apart, Tells, equal, agrees, clashes, binds-left, circles-left, binds-right, circles-right, powers, left-ends, halves, outcome, occurs-run, Sought, run-occurs}
-use Rattle.unification.specs.Shapes.{left-free, right-free, agree-says, clash-says, down-powers, both-pairs, Same, same-refl, Matched, unknowns, atoms, powers as alike-powers, pairs as alike-pairs, matched, Alike, meets-alike, alike-left, alike-right, alike-agree, alike-clash, Powers, alike-down, Pairs, alike-both}
+use Rattle.unification.specs.ByRule.{ends, Follows, at-root, along, Occurs, Apart, Tells, equal, agrees, clashes, binds-left, circles-left, binds-right, circles-right, powers, left-ends, halves, outcome, occurs-run, Sought, run-occurs}
+use Rattle.unification.specs.Shapes.{left-free, right-free, agree-says, clash-says, down-powers, both-pairs, Same, same-refl, Matched, unknowns, atoms, powers as alike-powers, pairs as alike-pairs, matched, Alike, meets-alike, alike-left, alike-right, alike-agree, alike-clash, alike-down, alike-both}
 
 -- ---- directions
 abbrev pub OneBinding : Direction → Type 0

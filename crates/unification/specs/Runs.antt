@@ -5,15 +5,15 @@
 -- solved and what their types are do not depend on which of two unknowns is bound.
 use Prim.Native.Nat.{ℕ, zero, suc, _+_, _*_, _≤_, _<_}
 use mathlib.Core.Path.{_≡_, refl, sym, _∙_, ap, subst}
-use mathlib.Core.List.{List, [], _∷_, _++_}
+use mathlib.Core.List.{List, [], _∷_}
 use native.Mathlib.Omega.{arith}
 use native.Mathlib.Decide.{decLt}
 use lib.ListN.{length}
-use Rattle.meter.specs.Meter.{Out, spent, halt, done, on, forgetE, done-costs}
+use Rattle.meter.specs.Meter.{Out, spent, halt, done, on, forgetE}
 use Rattle.unification.specs.Arena.{Node, decode, Words, U, nodeAt, Direction, mergeAt, Verdict, Answer, unify}
 use Rattle.unification.specs.Good.{Assignment, Says, Good, Inside, good-push, push-keeps, push-takes, pushAt, length-push, node-push-new, node-push-old}
 use Rattle.unification.specs.Unifies.{Allows}
-use Rattle.unification.specs.Ops.{Op, pay, make, compare, list, Bench, grow, learn, complain, exec, exec-metered, nodes, Sound}
+use Rattle.unification.specs.Ops.{Op, pay, make, compare, list, Bench, grow, learn, complain, exec, nodes, Sound}
 use Rattle.unification.specs.Exec.{exec-nil, exec-unpaid, exec-paid, exec-made, exec-no-room, exec-compared, exec-listed}
 use Rattle.unification.specs.ByRule.{ends, Tells, told, Told, tells-run, run-tells}
 use Rattle.unification.specs.Shapes.{Same, same-refl, same-sym}

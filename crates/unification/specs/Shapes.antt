@@ -3,13 +3,12 @@
 -- `Same`: two arenas in solved form that admit the same assignments, whatever is bound to what in them. There a reference leads in both to an unknown, to the
 -- same atom, or to powers or products of parts that are equal again (`matched`), so two references meet in the one as they meet in the other (`meets-alike`).
 -- Before that, what a meeting of two nodes says of them and of an assignment (`agree-says`, `clash-says`, `down-powers`, ..).
-use Prim.Native.Nat.{ℕ, zero, suc, _*_, _≤_, _<_}
+use Prim.Native.Nat.{ℕ, _*_, _≤_, _<_}
 use mathlib.Core.Path.{_≡_, refl, sym, _∙_, ap, ap₂, subst}
-use mathlib.Core.Logic.{_≢_}
 use mathlib.Core.Bool.{Bool, true, false}
 use native.Mathlib.Omega.{arith}
 use lib.ListN.{length}
-use Rattle.types.specs.Ty.{Atom, bool, int, given, Ty, base, pow, prod}
+use Rattle.types.specs.Ty.{Atom, bool, Ty, base, pow, prod}
 use Rattle.unification.specs.Arena.{Node, free, link, leaf, power, pair, bad, Words, nodeAt, Meeting, bindLeft, bindRight, agree, clash, down, both, sameAtom, verdictOf, meet}
 use Rattle.unification.specs.Good.{Assignment, Says, Good, Root, extend, extend-admits, extend-free}
 use Rattle.unification.specs.Unifies.{Allows, same-atom, other-atom}

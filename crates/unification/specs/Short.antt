@@ -3,7 +3,7 @@
 -- `Ranked` says of an arena what ranks keep: along a binding from unknown to unknown the rank rises, and an unknown of rank r stands for 2^r of the n nodes or more.
 -- The empty arena is ranked, a node made keeps it (an unknown is made with rank 0), and so does every comparison that is answered or refused (`merge-ranked`, carried through by `unify-carries`).
 -- `follows-short`: there c bindings are followed from a reference only where 2^c ≤ 2 * n: with 2,048 nodes never more than 12, however long the chain of equalities.
-use Prim.Native.Nat.{ℕ, zero, suc, _+_, _-_, _*_, _^_, _≤_, _<_}
+use Prim.Native.Nat.{ℕ, zero, suc, _+_, _*_, _^_, _≤_, _<_}
 use mathlib.Core.Path.{_≡_, refl, sym, _∙_, ap, subst}
 use mathlib.Core.Logic.{_≢_}
 use mathlib.Core.Bool.{Bool, true, false, _&&_}
@@ -12,9 +12,9 @@ use native.Mathlib.Omega.{arith}
 use native.Mathlib.Nat.{pow-succ', pow-le-pow-right}
 use native.Mathlib.Decide.{ℕ-discrete, decLt}
 use lib.Dec.{eqb, ltb}
-use lib.ListN.{length, getD, set, length-set}
+use lib.ListN.{length, getD, set}
 use lib.Seq.{getD-set-same, getD-set-other}
-use borrow.Author.Tests.{eq-eqb, ne-eqb, eqb-true, eqb-false, lt-ltb, le-ltb, ltb-true, ltb-false}
+use borrow.Author.Tests.{eq-eqb, ne-eqb, eqb-true, eqb-false, lt-ltb, ltb-true, ltb-false}
 use Rattle.meter.specs.Meter.{Out, spent, halt, done, M, ret, fail, tick, on, forgetE}
 use Rattle.unification.specs.Arena.{Node, free, link, leaf, power, pair, bad, decode, Words, nodeAt, bindAt, unknown, rankAt, either, below, level, raised, mergeAt, U, follow, resolve, Answer, unify}
 use Rattle.unification.specs.Steps.{resolve-eq}

@@ -8,13 +8,13 @@
 use Prim.Native.Nat.{ℕ, suc, _+_, _*_, _^_, _≤_, _<_}
 use mathlib.Core.Path.{_≡_, refl, _∙_, ap, subst}
 use mathlib.Core.Logic.{_≢_, _↔_}
-use mathlib.Core.Bool.{Bool, true, false}
+use mathlib.Core.Bool.{true}
 use mathlib.Core.List.{List, [], _∷_}
 use native.Mathlib.Omega.{arith}
 use native.Mathlib.Nat.{pow-le-pow-right}
 use native.Mathlib.Decide.{decLt}
 use lib.ListN.{length}
-use Rattle.meter.specs.Meter.{Out, done, Costs, exact-done}
+use Rattle.meter.specs.Meter.{done, Costs, exact-done}
 use Rattle.types.specs.Ty.{Ty, pow}
 use Rattle.unification.specs.Arena.{Words, nodeAt, leftBound, resolve, solved, read, Verdict, unified, unify}
 use Rattle.unification.specs.Good.{Assignment, Admits}
