@@ -93,12 +93,12 @@ module _ (Γ : Env) (f : Formula) where
       ap (λ (o : Out U Bench). on o (finish Γ (walked Γ f .row) (walked Γ f .slots))) (walk .enough (end .cost + 0)) ∙ end .enough 0 in
       outcome-only Γ f (size Γ f) (walk .cost + (end .cost + 0)) (end .answer) 0 e .1
 
-  module _ (by : Direction) (one : OneBinding by) where
-    -- the formula's operations, run from an empty arena by the rules in this direction
-    abbrev pub Leaves : Bench → Type 0
-    Leaves t = Runs by (walked Γ f .ops) (start (zeros (3 * size Γ f))) t
+  -- the formula's operations, run from an empty arena by the rules in this direction, leave t
+  abbrev pub Leaves : Direction → Bench → Type 0
+  Leaves by t = Runs by (walked Γ f .ops) (start (zeros (3 * size Γ f))) t
 
-    pub outcome-run : (t : Bench) × Leaves t
+  module _ (by : Direction) (one : OneBinding by) where
+    pub outcome-run : (t : Bench) × Leaves by t
     unfolding start
     outcome-run =
         let r = long Γ f in
@@ -106,7 +106,7 @@ module _ (Γ : Env) (f : Formula) where
         (over (walk .answer) (z .0), z .1)
 
     -- from some budget on the finish answers, and whatever it answers at any budget is the outcome
-    pub outcome-found : (t : Bench) → Leaves t → Exact (λ _. U) (λ o. o ≡ outcome Γ f) (finish Γ (walked Γ f .row) (walked Γ f .slots) t)
+    pub outcome-found : (t : Bench) → Leaves by t → Exact (λ _. U) (λ o. o ≡ outcome Γ f) (finish Γ (walked Γ f .row) (walked Γ f .slots) t)
     unfolding start
     outcome-found t run =
         let w = every-run by one (size Γ f) (walked Γ f .ops) empty (long Γ f) (record { tree = λ x. var x; rank = λ x. 0; fits = λ x l. absurd (omega arith) }) (safe Γ f .0) (omega arith) (walk .cost + 0) (walk .answer) 0 (walk .enough 0) t run in

@@ -97,7 +97,7 @@ pairs-apart-none =
     (one-clash, pairs-apart-listed, inl (omega arith))
 
 -- case 6 once more, where of two unknowns always the left one is bound, as the Rust does: there is such a run, and what is found after it is the same list
-pub pairs-apart-left : (t : Bench) × Leaves nothing-held pairs-apart leftBound left-binds t × ((budget left : ℕ) (o : Outcome)
+pub pairs-apart-left : (t : Bench) × Leaves nothing-held pairs-apart leftBound t × ((budget left : ℕ) (o : Outcome)
     → finish nothing-held (walked nothing-held pairs-apart .row) (walked nothing-held pairs-apart .slots) t budget ≡ done o left
     → answer (inferOf (0x22 ∷ 0x00 ∷ 0x07 ∷ 0x00 ∷ 0x01 ∷ 0x00 ∷ 0x00 ∷ 0x04 ∷ 0x04 ∷ 0x07 ∷ 0x00 ∷ 0x03 ∷ 0x03 ∷ []) [] 1 2048 1000 1000 10240 .steps) o .bytes ≡ spellProblems one-clash)
 pairs-apart-left =

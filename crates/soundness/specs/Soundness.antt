@@ -104,7 +104,7 @@ module _ (formula environment : List ℕ) (names capacity budget room work : ℕ
 
   -- ---- E8: the answer does not depend on which of two unknowns is bound. Let the formula's operations be run by the unifier's rules in any direction, the Rust's
   -- (`leftBound`) or another: types, problems, their order and places are those of this answer. (`Leaves`: the arena after that run; there is one, `outcome-run`)
-  pub any-direction : (by : Direction) (one : OneBinding by) (t : Bench) → Leaves Γ f by one t → (budget′ left : ℕ) (o : Outcome) → finish Γ (walked Γ f .row) (walked Γ f .slots) t budget′ ≡ done o left → A ≡ answer (A .steps) o
+  pub any-direction : (by : Direction) (one : OneBinding by) (t : Bench) → Leaves Γ f by t → (budget′ left : ℕ) (o : Outcome) → finish Γ (walked Γ f .row) (walked Γ f .slots) t budget′ ≡ done o left → A ≡ answer (A .steps) o
   any-direction by one t run budget′ left o e =
       let q : o ≡ outcome Γ f = exact-done (outcome-found Γ f by one t run) budget′ o left e in
       subst (λ (u : Outcome). A ≡ answer (A .steps) u) (sym q) (as-outcome (λ a. a ≡ answer (a .steps) (outcome Γ f)) (ap (λ (n : ℕ). answer n (outcome Γ f)) (sym (answer-steps (price Γ f) (outcome Γ f)))))
