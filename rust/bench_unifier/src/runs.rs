@@ -70,7 +70,7 @@ pub fn table() {
     for i in 0..1_000u32 {
         words.extend([0x4D, if i == 0 { 0 } else { i + 1 }, 0]);
     }
-    times("a chain of bindings", &words, 1_001, 1, 8_000);
+    times("a chain of bindings, laid by hand", &words, 1_001, 1, 8_000);
     times("one small pair", &[0x4E, 0, 0, 0x41, 0, 0, 0x43, 0, 0, 0x43, 1, 0], 2, 3, 400_000);
 }
 
@@ -96,6 +96,8 @@ pub fn agree(arenas: u32) -> BTreeMap<u32, u64> {
                 5 => [0x42, below(2) as u32, 0],
                 6 | 7 if i > 0 => [0x44, below(earlier) as u32, below(earlier) as u32],
                 8 if i > 0 => [0x43, below(earlier) as u32, 0],
+                // An unknown, now and then of a rank that calls alone would take long to make, the last one among them.
+                _ if below(6) == 0 => [0x4E, 0, below(40) as u32],
                 _ => [0x4E, 0, 0],
             };
             words[3 * i..3 * i + 3].copy_from_slice(&node);
