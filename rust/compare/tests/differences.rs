@@ -9,15 +9,18 @@ fn bytes(text: &str) -> Vec<u8> {
     unhex(&text.replace(' ', "")).unwrap()
 }
 
+/// How many names the formulas below may speak of.
+const NAMES: u32 = 3;
+
 fn judged(formula: &str, environment: &str) -> (u32, Vec<u8>) {
     let mut output = vec![0; 1_000];
     let mut work = vec![0; work_words(2_048) as usize];
-    let answer = reference::infer(&bytes(formula), &bytes(environment), 2, 2_048, u64::MAX, &mut output, &mut work);
+    let answer = reference::infer(&bytes(formula), &bytes(environment), NAMES, 2_048, u64::MAX, &mut output, &mut work);
     (answer.number, output[..answer.length as usize].to_vec())
 }
 
 fn heard(build: Build, formula: &str, environment: &str) -> (u32, Vec<u8>) {
-    let answer = driver::infer(build, &bytes(formula), &bytes(environment), 2).unwrap();
+    let answer = driver::infer(build, &bytes(formula), &bytes(environment), NAMES).unwrap();
     (answer.number.into(), answer.output)
 }
 
@@ -46,6 +49,33 @@ fn synthesised_types_are_compared_by_the_bought_factory_alone() {
         if present {
             assert_eq!(heard(Build::Exact, formula, environment), (1, bytes(exact)), "{formula}");
             assert_eq!(heard(Build::Factory, formula, environment), (1, bytes(factory)), "{formula}");
+        }
+    }
+}
+
+/// Which of two unknowns is bound: the second equality binds x2 by the rules and x1 in the bought checker, and nothing shows it, whether
+/// the names stay without a type, get one afterwards, or close a circle.
+#[test]
+fn the_other_unknown_is_bound_and_nothing_shows_it() {
+    let present = present_or_say("which of two unknowns is bound");
+    let chain = "22 00 01 0000 01 0100 22 00 01 0100 01 0200";
+    for (formula, number, output) in [
+        (format!("24 0200 {chain}"), 1, "60 03 05000000 0000 60 03 08000000 0100 60 03 10000000 0200"),
+        (
+            format!("24 0300 {chain} 22 00 01 0000 03"),
+            0,
+            "50 0000 41 50 0100 41 50 0200 41 51 05000000 41 51 08000000 41 51 0D000000 41 51 10000000 41 51 15000000 41 51 18000000 41",
+        ),
+        (
+            format!("24 0300 {chain} 22 06 01 0200 01 0000"),
+            1,
+            "60 01 13000000 FFFF 60 03 05000000 0000 60 03 08000000 0100 60 03 10000000 0200",
+        ),
+    ] {
+        assert_eq!(judged(&formula, ""), (number, bytes(output)), "{formula}");
+        if present {
+            assert_eq!(heard(Build::Exact, &formula, ""), (number, bytes(output)), "{formula}");
+            assert_eq!(heard(Build::Factory, &formula, ""), (number, bytes(output)), "{formula}");
         }
     }
 }
