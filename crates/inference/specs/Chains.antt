@@ -1,7 +1,8 @@
 -- However long a formula's chain of equalities, no reference of its walk is ever more than a few bindings from its end.
 --
--- `chains-short`: at every point of a walk (after any first part of its operations, run at any capacity inside the limits and any budget), to follow a reference
--- costs c units only where 2^c is at most twice the count of nodes there. `sixteen-bindings`: so never more than 16, the capacity being 32,768 at most.
+-- `chains-short`: after any first part of a walk's operations, run at any capacity inside the limits and any budget, to follow a reference costs c units only where
+-- 2^c is less than twice the count of nodes there. `chains-short-within`: and so it does at every point of a comparison that follows. `fifteen-bindings`: so never
+-- more than 15, the capacity being 32,768 at most.
 use Prim.Native.Nat.{ℕ, _+_, _*_, _-_, _^_, _≤_, _<_}
 use mathlib.Core.Path.{_≡_, refl, sym, _∙_, ap, subst}
 use mathlib.Core.List.{List, _++_}
@@ -13,11 +14,12 @@ use Rattle.meter.specs.Meter.{Out, spent, halt, done, full, M, Halts}
 use Rattle.types.specs.Limits.{max-capacity}
 use Rattle.formula.specs.Environment.{Env}
 use Rattle.formula.specs.Tree.{Formula}
-use Rattle.unification.specs.Arena.{U, resolve}
+use Rattle.unification.specs.Arena.{U, resolve, unify}
 use Rattle.unification.specs.Trees.{var}
+use Rattle.unification.specs.Laws.{after}
 use Rattle.unification.specs.Ops.{Op, Bench, Ready, Sound, sound-split, nodes, exec, exec-full}
 use Rattle.unification.specs.Exec.{Counts, exec-counts}
-use Rattle.unification.specs.Short.{exec-short}
+use Rattle.unification.specs.Short.{exec-short, exec-short-within}
 use Rattle.walk.specs.Walk.{walked}
 use Rattle.walk.specs.Triple.{nodes-append}
 use Rattle.walk.specs.Verdict.{start}
@@ -61,13 +63,23 @@ module _ (Γ : Env) (f : Formula) (os qs : List Op) (parts : walked Γ f .ops �
           absurd (never-done (exec capacity os (start (zeros (3 * size Γ f)))) (z .0) (z .1) budget s left run)
       at (no l) = omega arith
 
-  pub chains-short : (t : ℕ) → t < s .count → (β p r : ℕ) → resolve (s .words) (s .count) t β ≡ done p r → (c : ℕ) × (c + r ≡ β) × (2 ^ c ≤ 2 * s .count)
+  -- after the last of these operations
+  pub chains-short : (t : ℕ) → t < s .count → (β p r : ℕ) → resolve (s .words) (s .count) t β ≡ done p r → (c : ℕ) × (c + r ≡ β) × (2 ^ c < 2 * s .count)
   unfolding start
-  chains-short t tl β p r h =
+  chains-short =
       let e = long in
       let w = part in
       let l = few in
-      exec-short capacity os (start (zeros (3 * size Γ f))) refl sound (omega arith) (omega arith) budget s left run t tl β p r h
+      exec-short capacity os (start (zeros (3 * size Γ f))) refl sound (omega arith) (omega arith) budget s left run
+
+  -- in the midst of a comparison that follows, after any number of its units
+  pub chains-short-within : (a b units t : ℕ) → t < s .count → (β p r : ℕ) → resolve (after (unify (s .count) (s .words, a, b) units)) (s .count) t β ≡ done p r → (c : ℕ) × (c + r ≡ β) × (2 ^ c < 2 * s .count)
+  unfolding start
+  chains-short-within =
+      let e = long in
+      let w = part in
+      let l = few in
+      exec-short-within capacity os (start (zeros (3 * size Γ f))) refl sound (omega arith) (omega arith) budget s left run
 
   -- as many nodes as were made
   counted : s .count ≡ nodes os
@@ -75,9 +87,12 @@ module _ (Γ : Env) (f : Formula) (os qs : List Op) (parts : walked Γ f .ops �
   counted = let e = subst (λ (o : Out U Bench). Counts os (start (zeros (3 * size Γ f))) o) run (exec-counts capacity os (start (zeros (3 * size Γ f))) budget) in omega arith
 
   -- within the limit of 32,768 nodes
-  pub sixteen-bindings : (t : ℕ) → t < s .count → (β p r : ℕ) → resolve (s .words) (s .count) t β ≡ done p r → (c : ℕ) × (c + r ≡ β) × (c ≤ 16)
-  sixteen-bindings t tl β p r h = let z = chains-short t tl β p r h in (z .0, z .1, at (z .0) (z .2) (decLt 16 (z .0)))
+  fifteen : (c : ℕ) → 2 ^ c < 2 * s .count → c ≤ 15
+  fifteen c q = at (decLt 15 c)
     where
-      at : (c : ℕ) → 2 ^ c ≤ 2 * s .count → Dec (16 < c) → c ≤ 16
-      at c q (yes l) = let m = pow-le-pow-right {n = 2} (omega arith) {i = 17} {j = c} l in let e = counted in let k = few in absurd (omega arith)
-      at c q (no l) = omega arith
+      at : Dec (15 < c) → c ≤ 15
+      at (yes l) = let m = pow-le-pow-right {n = 2} (omega arith) {i = 16} {j = c} l in let e = counted in let k = few in absurd (omega arith)
+      at (no l) = omega arith
+
+  pub fifteen-bindings : (t : ℕ) → t < s .count → (β p r : ℕ) → resolve (s .words) (s .count) t β ≡ done p r → (c : ℕ) × (c + r ≡ β) × (c ≤ 15)
+  fifteen-bindings t tl β p r h = let z = chains-short t tl β p r h in let k = fifteen (z .0) (z .2) in (z .0, z .1, omega arith)

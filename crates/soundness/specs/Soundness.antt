@@ -103,7 +103,8 @@ module _ (formula environment : List ℕ) (names capacity budget room work : ℕ
       (excluded-kinds f z h, as-outcome (λ a. (ps : List Problem) × Lists a ps × SomeOf (λ p. p ≡ problemOf z) ps) (listing-excluded Γ f (price Γ f) (outcome Γ f) verdict (excluded-none z i) z h))
 
   -- ---- E8: the answer does not depend on which of two unknowns is bound. Let the formula's operations be run by the unifier's rules in any direction, the Rust's
-  -- (`leftBound`) or another: types, problems, their order and places are those of this answer. (`Leaves`: the arena after that run; there is one, `outcome-run`)
+  -- (`leftBound`) or another: types, problems, their order and places are those of this answer. (`Leaves`: the arena after that run; there is one, `outcome-run`,
+  -- and the finish answers over it from some budget on, `outcome-found`: crates/inference/specs/AnyDirection.antt)
   pub any-direction : (by : Direction) (one : OneBinding by) (t : Bench) → Leaves Γ f by t → (budget′ left : ℕ) (o : Outcome) → finish Γ (walked Γ f .row) (walked Γ f .slots) t budget′ ≡ done o left → A ≡ answer (A .steps) o
   any-direction by one t run budget′ left o e =
       let q : o ≡ outcome Γ f = exact-done (outcome-found Γ f by one t run) budget′ o left e in

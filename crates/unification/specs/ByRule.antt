@@ -2,8 +2,8 @@
 --
 -- `Follows`: where the bindings from a reference lead. `Occurs`: whether an unknown occurs. `Tells`: how two references are made equal, which of mismatch and
 -- circularity a failure is, and which words stand. `breaks` is a refusal: a link or reference outside, or an unknown kind, was met there.
--- What is bound to what is the rules' parameter: `mergeAt` is what this unifier does, `leftBound` what the Rust does (`Direction` has the theorem that nothing
--- which is answered depends on it).
+-- What is bound to what is the rules' parameter: `mergeAt` is what this unifier does, `leftBound` what the Rust does. That nothing which is answered depends on it
+-- is `follows-suit` in `Direction`.
 -- `tells-run`: at a budget of its price or more a derivation is what `unify` answers, with what is over left; below its price the budget is spent.
 -- `run-tells`: whatever `unify` answers or refuses, on any words, has a derivation. So the rules say exactly which answer is given and which refusal.
 use Prim.Native.Nat.{ℕ, zero, suc, _+_, _-_, _*_, _≤_, _<_}

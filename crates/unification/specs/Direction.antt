@@ -21,9 +21,10 @@ use Rattle.unification.specs.Trees.{var, has, size}
 use Rattle.unification.specs.Good.{Assignment, Says, Fits, Good, Root, Step, good-ind, extend, extend-admits, extend-free, length-bind, node-bind-same, node-bind-other}
 use Rattle.unification.specs.Merge.{Merged, to-right, merged}
 use Rattle.unification.specs.Readers.{occurs-exact}
+use Rattle.unification.specs.Frame.{left-unknown, right-unknown}
 use Rattle.unification.specs.Unifies.{Allows, Outcome, kept-refl, outcome-map, never, merging, left-half, right-half}
 use Rattle.unification.specs.ByRule.{ends, Follows, at-root, along, Occurs, Apart, Tells, equal, agrees, clashes, binds-left, circles-left, binds-right, circles-right, powers, left-ends, halves, outcome, occurs-run, Sought, run-occurs}
-use Rattle.unification.specs.Shapes.{left-free, right-free, agree-says, clash-says, down-powers, both-pairs, Same, same-refl, Matched, unknowns, atoms, powers as alike-powers, pairs as alike-pairs, matched, Alike, meets-alike, alike-left, alike-right, alike-agree, alike-clash, alike-down, alike-both}
+use Rattle.unification.specs.Shapes.{agree-says, clash-says, down-powers, both-pairs, Same, same-refl, Matched, unknowns, atoms, powers as alike-powers, pairs as alike-pairs, matched, Alike, meets-alike, alike-left, alike-right, alike-agree, alike-clash, alike-down, alike-both}
 
 -- ---- directions
 abbrev pub OneBinding : Direction → Type 0
@@ -129,19 +130,19 @@ module _ (by : Direction) (one : OneBinding by) (n : ℕ) where
   tells-outcome {ws} {a = a} {b = b} s G al bl (binds-left {o = o} {u = u} p e x) =
       let A = reaches n ws G al (p .left) in
       let B = reaches n ws G bl (p .right) in
-      at-roots ws s G a b o u A B (bound-outcome ws s G (o .0) (u .0) (A .inside) (B .inside) (A .node ∙ left-free (o .1) (u .1) (A .root) (B .root) e) (subst (λ (k : Node). Root k) (sym (B .node)) (B .root)) (p .apart) x)
+      at-roots ws s G a b o u A B (bound-outcome ws s G (o .0) (u .0) (A .inside) (B .inside) (A .node ∙ left-unknown n (o .1) (u .1) e) (subst (λ (k : Node). Root k) (sym (B .node)) (B .root)) (p .apart) x)
   tells-outcome {ws} {a = a} {b = b} s G al bl (circles-left {o = o} {u = u} p e x) =
       let A = reaches n ws G al (p .left) in
       let B = reaches n ws G bl (p .right) in
-      at-roots ws s G a b o u A B (circle-outcome ws s G (o .0) (u .0) (A .inside) (B .inside) (A .node ∙ left-free (o .1) (u .1) (A .root) (B .root) e) (subst (λ (k : Node). Root k) (sym (B .node)) (B .root)) (p .apart) x)
+      at-roots ws s G a b o u A B (circle-outcome ws s G (o .0) (u .0) (A .inside) (B .inside) (A .node ∙ left-unknown n (o .1) (u .1) e) (subst (λ (k : Node). Root k) (sym (B .node)) (B .root)) (p .apart) x)
   tells-outcome {ws} {a = a} {b = b} s G al bl (binds-right {o = o} {u = u} p e x) =
       let A = reaches n ws G al (p .left) in
       let B = reaches n ws G bl (p .right) in
-      at-roots ws s G a b o u A B (turned (bound-outcome ws s G (u .0) (o .0) (B .inside) (A .inside) (B .node ∙ right-free (o .1) (u .1) (A .root) (B .root) e) (subst (λ (k : Node). Root k) (sym (A .node)) (A .root)) (λ q. p .apart (sym q)) x))
+      at-roots ws s G a b o u A B (turned (bound-outcome ws s G (u .0) (o .0) (B .inside) (A .inside) (B .node ∙ right-unknown n (o .1) (u .1) e) (subst (λ (k : Node). Root k) (sym (A .node)) (A .root)) (λ q. p .apart (sym q)) x))
   tells-outcome {ws} {a = a} {b = b} s G al bl (circles-right {o = o} {u = u} p e x) =
       let A = reaches n ws G al (p .left) in
       let B = reaches n ws G bl (p .right) in
-      at-roots ws s G a b o u A B (turned (circle-outcome ws s G (u .0) (o .0) (B .inside) (A .inside) (B .node ∙ right-free (o .1) (u .1) (A .root) (B .root) e) (subst (λ (k : Node). Root k) (sym (A .node)) (A .root)) (λ q. p .apart (sym q)) x))
+      at-roots ws s G a b o u A B (turned (circle-outcome ws s G (u .0) (o .0) (B .inside) (A .inside) (B .node ∙ right-unknown n (o .1) (u .1) e) (subst (λ (k : Node). Root k) (sym (A .node)) (A .root)) (λ q. p .apart (sym q)) x))
   tells-outcome {ws} {a = a} {b = b} s G al bl (powers {x = x} {y = y} {o = o} {u = u} p e t) =
       let A = reaches n ws G al (p .left) in
       let B = reaches n ws G bl (p .right) in

@@ -20,6 +20,7 @@ pub mod Past
 pub mod Put
 pub mod Histories
 pub mod ByRule
+pub mod BothWays
 pub mod Carry
 pub mod Short
 pub mod Shapes

@@ -1,7 +1,7 @@
 -- A list of operations run by rules, in any direction and with no budget: `Runs by os s t`, from the bench s to the bench t.
 --
--- `some-run`, `every-run`: where the list is run to its end (`exec`), it runs by every direction, the Rust's among them; and every run of it, whichever way unknowns are bound
--- at each comparison, lists the same problems in the same order and ends in an arena that admits the same assignments. So what is listed, which references are
+-- `some-run`, `every-run`: where the list is run to its end (`exec`), it runs by every direction, the Rust's among them; and every run of it, in whichever direction,
+-- lists the same problems in the same order and ends in an arena that admits the same assignments. So what is listed, which references are
 -- solved and what their types are do not depend on which of two unknowns is bound.
 use Prim.Native.Nat.{ℕ, zero, suc, _+_, _*_, _≤_, _<_}
 use mathlib.Core.Path.{_≡_, refl, sym, _∙_, ap, subst}
@@ -10,12 +10,13 @@ use native.Mathlib.Omega.{arith}
 use native.Mathlib.Decide.{decLt}
 use lib.ListN.{length}
 use Rattle.meter.specs.Meter.{Out, spent, halt, done, on, forgetE}
-use Rattle.unification.specs.Arena.{Node, decode, Words, U, nodeAt, Direction, mergeAt, Verdict, Answer, unify}
+use Rattle.unification.specs.Arena.{Node, decode, Words, U, nodeAt, Direction, mergeAt, leftBound, Verdict, Answer, unify}
 use Rattle.unification.specs.Good.{Assignment, Says, Good, Inside, good-push, push-keeps, push-takes, pushAt, length-push, node-push-new, node-push-old}
 use Rattle.unification.specs.Unifies.{Allows}
-use Rattle.unification.specs.Ops.{Op, pay, make, compare, list, Bench, grow, learn, complain, exec, nodes, Sound}
+use Rattle.unification.specs.Ops.{Op, pay, make, compare, list, Bench, noted, grow, learn, complain, exec, nodes, Sound}
 use Rattle.unification.specs.Exec.{exec-nil, exec-unpaid, exec-paid, exec-made, exec-no-room, exec-compared, exec-listed}
 use Rattle.unification.specs.ByRule.{ends, Tells, told, Told, tells-run, run-tells}
+use Rattle.unification.specs.BothWays.{two-ranks, left-bound, as-the-rust}
 use Rattle.unification.specs.Shapes.{Same, same-refl, same-sym}
 use Rattle.unification.specs.Direction.{OneBinding, merge-binds, tells-outcome, follows-suit}
 
@@ -168,3 +169,11 @@ module _ (by : Direction) (one : OneBinding by) (cap : ℕ) (os : List Op) (s : 
       let c : t′ .count ≡ t .count = ap (λ (b : Bench). b .count) q in
       let w : z .0 ≡ t .words = ap (λ (b : Bench). b .words) q in
       (c, ap (λ (b : Bench). b .problems) q, same-sym (subst (λ (n : ℕ). Same n (t′ .words) (t .words)) c (subst (λ (us : Words). Same (t′ .count) (t′ .words) us) w (z .2))))
+
+-- ---- a list of one comparison, in the Rust's direction: the left unknown is bound
+abbrev bench : Words → Bench
+bench ws = record { count = 2; words = ws; problems = [] }
+
+pub left-run : Runs leftBound (compare 0 1 7 ∷ []) (bench two-ranks) (bench left-bound)
+unfolding learn noted
+left-run = compared as-the-rust ended

@@ -56,18 +56,6 @@ module _ (x y : Node) (rx : Root x) (ry : Root y) where
   seen : {m : Meeting} → meet x y ≡ m → Sees x y m
   seen e = subst (λ (k : Meeting). Sees x y k) e (sees x y rx ry)
 
-  pub left-free : meet x y ≡ bindLeft → x ≡ free
-  left-free e = go (seen e)
-    where
-      go : {x y : Node} → Sees x y bindLeft → x ≡ free
-      go sees-left = refl
-
-  pub right-free : meet x y ≡ bindRight → y ≡ free
-  right-free e = go (seen e)
-    where
-      go : {x y : Node} → Sees x y bindRight → y ≡ free
-      go sees-right = refl
-
   pub agree-says : meet x y ≡ agree → (σ : Assignment) (a b : ℕ) → Says σ a x → Says σ b y → σ a ≡ σ b
   agree-says e = go (seen e)
     where

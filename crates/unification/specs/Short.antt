@@ -1,8 +1,8 @@
 -- How short the chains of bindings are.
 --
 -- `Ranked` says of an arena what ranks keep: along a binding from unknown to unknown the rank rises, and an unknown of rank r stands for 2^r of the n nodes or more.
--- The empty arena is ranked, a node made keeps it (an unknown is made with rank 0), and so does every comparison that is answered or refused (`merge-ranked`, carried through by `unify-carries`).
--- `follows-short`: there c bindings are followed from a reference only where 2^c ≤ 2 * n: with 2,048 nodes never more than 12, however long the chain of equalities.
+-- The empty arena is ranked, a node made keeps it (an unknown is made with rank 0), and so does every comparison, answered, refused or spent (`merge-ranked`, carried through by `unify-carries`).
+-- `follows-short`: there c bindings are followed from a reference only where 2^c < 2 * n: with 2,048 nodes never more than 12, however long the chain of equalities.
 use Prim.Native.Nat.{ℕ, zero, suc, _+_, _*_, _^_, _≤_, _<_}
 use mathlib.Core.Path.{_≡_, refl, sym, _∙_, ap, subst}
 use mathlib.Core.Logic.{_≢_}
@@ -20,11 +20,11 @@ use Rattle.unification.specs.Arena.{Node, free, link, leaf, power, pair,
 use Rattle.unification.specs.Steps.{resolve-eq}
 use Rattle.unification.specs.Trees.{and-left, and-right}
 use Rattle.unification.specs.Good.{Root, Inside, Proper, pushAt, word-other, node-push-new, node-push-old, push-word, push-second, length-push}
-use Rattle.unification.specs.Merge.{Binds, below-free, level-free, left-binds, right-binds, length-merge}
+use Rattle.unification.specs.Merge.{Binds, below-free, level-free, to-left-binds, to-right-binds, length-merge}
 use Rattle.unification.specs.Laws.{after, Reached, empty, made, called, reached-whole}
 use Rattle.unification.specs.Carry.{unify-carries}
 use Rattle.unification.specs.Ops.{Op, pay, make, compare, list, Bench, grow, learn, complain, exec, nodes, Sound}
-use Rattle.unification.specs.Exec.{exec-nil, exec-unpaid, exec-paid, exec-made, exec-no-room, exec-compared, exec-listed}
+use Rattle.unification.specs.Exec.{Counts, exec-counts, exec-nil, exec-unpaid, exec-paid, exec-made, exec-no-room, exec-compared, exec-listed}
 use Rattle.unification.specs.ByRule.{End, ends, Follows, at-root, outside, along}
 
 -- ---- sums
@@ -56,29 +56,43 @@ abbrev pickℕ : Bool → ℕ → ℕ → ℕ
 pickℕ true a b = a
 pickℕ false a b = b
 
+-- a summand is no more than the sum, and two are not
+without : (ℕ → ℕ) → ℕ → ℕ → ℕ
+without f x z = pickℕ (eqb z x) 0 (f z)
+
+module _ (f : ℕ → ℕ) (x k : ℕ) (l : x < k) where
+  without-here : without f x x ≡ 0
+  unfolding without
+  without-here = ap (λ c. pickℕ c 0 (f x)) (eq-eqb x x refl)
+
+  without-other : (z : ℕ) → z ≢ x → without f x z ≡ f z
+  unfolding without
+  without-other z q = ap (λ c. pickℕ c 0 (f z)) (ne-eqb z x q)
+
+  sum-without : sum (without f x) k + f x ≡ sum f k
+  sum-without = let p = sum-one f (without f x) x without-other k l in let q = without-here in omega arith
+
+  summand : f x ≤ sum f k
+  summand = let p = sum-without in omega arith
+
+summands : (f : ℕ → ℕ) (x y k : ℕ) → x < k → y < k → x ≢ y → f x + f y ≤ sum f k
+summands f x y k xl yl ne =
+    let p = sum-without f x k xl in
+    let q = summand (without f x) y k yl in
+    let r = without-other f x k xl y (λ e. ne (sym e)) in
+    omega arith
+
 -- x's share goes to y, or is lost
 module _ (f g : ℕ → ℕ) (x y k : ℕ) (xl : x < k) (yl : y < k) (ne : x ≢ y) (gx : g x ≡ 0) (gy : g y ≤ f x + f y) (h : (z : ℕ) → z ≢ x → z ≢ y → g z ≡ f z) where
-  mid : ℕ → ℕ
-  mid z = pickℕ (eqb z x) 0 (f z)
-
-  mid-x : mid x ≡ 0
-  unfolding mid
-  mid-x = ap (λ c. pickℕ c 0 (f x)) (eq-eqb x x refl)
-
-  mid-other : (z : ℕ) → z ≢ x → mid z ≡ f z
-  unfolding mid
-  mid-other z q = ap (λ c. pickℕ c 0 (f z)) (ne-eqb z x q)
-
-  from-mid : (z : ℕ) → z ≢ y → Dec (z ≡ x) → g z ≡ mid z
-  from-mid z q (yes e) = ap g e ∙ gx ∙ sym (ap mid e ∙ mid-x)
-  from-mid z q (no e) = h z e q ∙ sym (mid-other z e)
+  from-mid : (z : ℕ) → z ≢ y → Dec (z ≡ x) → g z ≡ without f x z
+  from-mid z q (yes e) = ap g e ∙ gx ∙ sym (ap (without f x) e ∙ without-here f x k xl)
+  from-mid z q (no e) = h z e q ∙ sym (without-other f x k xl z e)
 
   sum-moved : sum g k ≤ sum f k
   sum-moved =
-      let p = sum-one f mid x mid-other k xl in
-      let q = sum-one mid g y (λ z e. from-mid z e (ℕ-discrete z x)) k yl in
-      let r = mid-x in
-      let s = mid-other y (λ e. ne (sym e)) in
+      let p = sum-without f x k xl in
+      let q = sum-one (without f x) g y (λ z e. from-mid z e (ℕ-discrete z x)) k yl in
+      let s = without-other f x k xl y (λ e. ne (sym e)) in
       omega arith
 
 -- ---- the invariant
@@ -90,17 +104,26 @@ Var (power a) = ⊥
 Var (pair a b) = ⊥
 Var bad = ⊥
 
+abbrev Solid : Node → Type 0
+Solid free = ⊥
+Solid (link j) = ⊥
+Solid (leaf p) = Unit {0}
+Solid (power a) = Unit {0}
+Solid (pair a b) = Unit {0}
+Solid bad = Unit {0}
+
+-- how many of the nodes one stands for: an unbound unknown for those that lead to it, a bound one for none, any other for itself
 unfoldable pub share : Node → ℕ → ℕ
 share free k = k
 share (link j) k = 0
-share (leaf p) k = 0
-share (power a) k = 0
-share (pair a b) k = 0
-share bad k = 0
+share (leaf p) k = 1
+share (power a) k = 1
+share (pair a b) k = 1
+share bad k = 1
 
 abbrev Stood : ℕ → Words → (ℕ → ℕ) → ℕ → Node → Type 0
 Stood n ws m x free = 2 ^ rankAt ws x ≤ m x
-Stood n ws m x (link j) = (j < n) × (2 ^ rankAt ws x ≤ n) × (Var (nodeAt ws n j) → rankAt ws x < rankAt ws j)
+Stood n ws m x (link j) = (j < n) × (Var (nodeAt ws n j) → rankAt ws x < rankAt ws j) × (Solid (nodeAt ws n j) → 2 ^ rankAt ws x < n)
 Stood n ws m x (leaf p) = Unit {0}
 Stood n ws m x (power a) = Unit {0}
 Stood n ws m x (pair a b) = Unit {0}
@@ -111,23 +134,34 @@ pub record Ranked (n : ℕ) (ws : Words) : Type 0 where
   pub stood : (x : ℕ) → x < n → Stood n ws mass x (nodeAt ws n x)
   pub held : sum (λ x. share (nodeAt ws n x) (mass x)) n ≤ n
 
--- an unbound unknown has no more than there is
+-- an unbound unknown has no more than there is, and beside a node that is no unknown less
 module _ (n : ℕ) (ws : Words) (R : Ranked n ws) where
-  part : (x : ℕ) → x < n → nodeAt ws n x ≡ free → R .mass x ≤ n
+  abbrev shares : ℕ → ℕ
+  shares z = share (nodeAt ws n z) (R .mass z)
+
+  share-free : (x : ℕ) → nodeAt ws n x ≡ free → shares x ≡ R .mass x
   unfolding share
-  part x l e =
-      let f : ℕ → ℕ = λ z. share (nodeAt ws n z) (R .mass z) in
-      let g : ℕ → ℕ = λ z. pickℕ (eqb z x) 0 (f z) in
-      let p = sum-one f g x (λ z q. ap (λ c. pickℕ c 0 (f z)) (ne-eqb z x q)) n l in
-      let q : g x ≡ 0 = ap (λ c. pickℕ c 0 (f x)) (eq-eqb x x refl) in
-      let r : f x ≡ R .mass x = ap (λ (k : Node). share k (R .mass x)) e in
-      let s = R .held in
-      omega arith
+  share-free x e = ap (λ (k : Node). share k (R .mass x)) e
+
+  share-solid : (y : ℕ) (nd : Node) → nodeAt ws n y ≡ nd → Solid nd → shares y ≡ 1
+  unfolding share
+  share-solid y free e q = absurd q
+  share-solid y (link j) e q = absurd q
+  share-solid y (leaf p) e q = ap (λ (k : Node). share k (R .mass y)) e
+  share-solid y (power a) e q = ap (λ (k : Node). share k (R .mass y)) e
+  share-solid y (pair a b) e q = ap (λ (k : Node). share k (R .mass y)) e
+  share-solid y bad e q = ap (λ (k : Node). share k (R .mass y)) e
+
+  part : (x : ℕ) → x < n → nodeAt ws n x ≡ free → R .mass x ≤ n
+  part x l e = let p = summand shares x n l in let r = share-free x e in let s = R .held in omega arith
+
+  less : (x y : ℕ) → x < n → y < n → x ≢ y → nodeAt ws n x ≡ free → Solid (nodeAt ws n y) → R .mass x < n
+  less x y xl yl ne e q = let p = summands shares x y n xl yl ne in let r = share-free x e in let t = share-solid y (nodeAt ws n y) refl q in let s = R .held in omega arith
 
   stood-free : (x : ℕ) → x < n → nodeAt ws n x ≡ free → 2 ^ rankAt ws x ≤ R .mass x
   stood-free x l e = subst (λ (k : Node). Stood n ws (R .mass) x k) e (R .stood x l)
 
-  stood-link : (x j : ℕ) → x < n → nodeAt ws n x ≡ link j → (j < n) × (2 ^ rankAt ws x ≤ n) × (Var (nodeAt ws n j) → rankAt ws x < rankAt ws j)
+  stood-link : (x j : ℕ) → x < n → nodeAt ws n x ≡ link j → (j < n) × (Var (nodeAt ws n j) → rankAt ws x < rankAt ws j) × (Solid (nodeAt ws n j) → 2 ^ rankAt ws x < n)
   stood-link x j l e = subst (λ (k : Node). Stood n ws (R .mass) x k) e (R .stood x l)
 
 -- ---- one binding, of the unknown x to y; only the rank of y may have risen
@@ -154,6 +188,10 @@ module _ (n : ℕ) (ws ws′ : Words) (R : Ranked n ws) (x y : ℕ) (xl : x < n)
   was-var z (yes e) v = subst (λ (k : Node). Var k) (sym (ap (nodeAt ws n) e ∙ fx)) tt
   was-var z (no e) v = subst (λ (k : Node). Var k) (B .there z e) v
 
+  was-solid : (z : ℕ) → Dec (z ≡ x) → Solid (nodeAt ws′ n z) → Solid (nodeAt ws n z)
+  was-solid z (yes e) v = absurd (subst (λ (k : Node). Solid k) (ap (nodeAt ws′ n) e ∙ B .here) v)
+  was-solid z (no e) v = subst (λ (k : Node). Solid k) (B .there z e) v
+
   root-var : (nd : Node) → Root nd → Var nd → nd ≡ free
   root-var free r v = refl
   root-var (link j) r v = absurd r
@@ -175,9 +213,9 @@ module _ (n : ℕ) (ws ws′ : Words) (R : Ranked n ws) (x y : ℕ) (xl : x < n)
   at-other z h (link j) s =
       let r = ap (λ (k : ℕ). 2 ^ k) (same z h) in
       let q = same z h in
-      let l = s .1 in
-      let w = s .2 in
-      (s .0, omega arith, λ v. (let a = w (was-var j (ℕ-discrete j x) v) in let b = rises j (ℕ-discrete j y) in omega arith))
+      let w = s .1 in
+      let l = s .2 in
+      (s .0, λ v. (let a = w (was-var j (ℕ-discrete j x) v) in let b = rises j (ℕ-discrete j y) in omega arith), λ v. (let a = l (was-solid j (ℕ-discrete j x) v) in omega arith))
   at-other z h (leaf p) s = tt
   at-other z h (power a) s = tt
   at-other z h (pair a b) s = tt
@@ -188,8 +226,7 @@ module _ (n : ℕ) (ws ws′ : Words) (R : Ranked n ws) (x y : ℕ) (xl : x < n)
       let r = ap (λ (k : ℕ). 2 ^ k) (same x ne) in
       let q = same x ne in
       let f = stood-free n ws R x xl fx in
-      let g = part n ws R x xl fx in
-      (yl, omega arith, λ v. (let a = up (root-var (nodeAt ws n y) ry (was-var y (ℕ-discrete y x) v)) in omega arith))
+      (yl, λ v. (let a = up (root-var (nodeAt ws n y) ry (was-var y (ℕ-discrete y x) v)) in omega arith), λ v. (let g = less n ws R x y xl yl ne fx (was-solid y (ℕ-discrete y x) v) in omega arith))
 
   stood′ : (z : ℕ) → z < n → Dec (z ≡ x) → Dec (z ≡ y) → Stood n ws′ mass′ z (nodeAt ws′ n z)
   stood′ z l (yes e) d = subst (λ (k : ℕ). Stood n ws′ mass′ k (nodeAt ws′ n k)) (sym e) (subst (λ (k : Node). Stood n ws′ mass′ x k) (sym (B .here)) at-x)
@@ -271,7 +308,7 @@ module _ (n : ℕ) (small : n < 2 ^ 32) (ws : Words) (s : 3 * n ≤ length ws) (
       let q = bind-rank ws t v v in
       let m = stood-free n ws R v vl fr in
       let r = ap (λ (k : ℕ). 2 ^ k) q in
-      bound-ranked n ws (bindAt ws t v) R t v tl vl (λ z. ne (sym z)) f (subst (λ (k : Node). Root k) (sym fr) tt) (left-binds ws n v t s vl tl)
+      bound-ranked n ws (bindAt ws t v) R t v tl vl (λ z. ne (sym z)) f (subst (λ (k : Node). Root k) (sym fr) tt) (to-left-binds ws n v t s vl tl)
       (λ z h. bind-rank ws t v z) (omega arith) (λ _. omega arith) (λ _. omega arith)
 
   risen : rankAt (set ws (3 * t + 2) (suc (rankAt ws t))) t ≡ suc (rankAt ws t)
@@ -306,7 +343,7 @@ module _ (n : ℕ) (small : n < 2 ^ 32) (ws : Words) (s : 3 * n ≤ length ws) (
   merge-ranked-at : (c : Bool) → below ws n v t ≡ c → Ranked n (either c (bindAt ws t v) (bindAt (raised ws n v t) v t))
   unfolding raised
   merge-ranked-at true e = to-the-left e
-  merge-ranked-at false e = to-the-right-at e (level ws n v t) refl (raised ws n v t) refl (right-binds ws n v t s vl tl)
+  merge-ranked-at false e = to-the-right-at e (level ws n v t) refl (raised ws n v t) refl (to-right-binds ws n v t s vl tl)
 
   pub merge-ranked : Ranked n (mergeAt ws n v t)
   unfolding mergeAt
@@ -340,12 +377,12 @@ module _ (n : ℕ) (ws : Words) (k a b : ℕ) (s : 3 * suc n ≤ length ws) (i :
   old-stood z l free h = let m = massN-old z l in let r = ap (λ (k : ℕ). 2 ^ k) (rank-old z l) in omega arith
   old-stood z l (link j) h =
       let jl = h .0 in
-      let q = h .1 in
-      let w = h .2 in
+      let w = h .1 in
+      let g = h .2 in
       let r = ap (λ (k : ℕ). 2 ^ k) (rank-old z l) in
       let r′ = rank-old z l in
       let r″ = rank-old j jl in
-      (omega arith, omega arith, λ v. (let g = w (subst (λ (c : Node). Var c) (node-push-old ws n k a b s j jl) v) in omega arith))
+      (omega arith, λ v. (let q = w (subst (λ (c : Node). Var c) (node-push-old ws n k a b s j jl) v) in omega arith), λ v. (let q = g (subst (λ (c : Node). Solid c) (node-push-old ws n k a b s j jl) v) in omega arith))
   old-stood z l (leaf p) h = tt
   old-stood z l (power x) h = tt
   old-stood z l (pair x y) h = tt
@@ -364,22 +401,21 @@ module _ (n : ℕ) (ws : Words) (k a b : ℕ) (s : 3 * suc n ≤ length ws) (i :
       (subst (λ (c : Node). Stood (suc n) ws″ massN n c) (sym (node-push-new ws n k a b s)) (new-stood (decode k a b) refl (i .0)))
   stoodN z l (no h) = let q : z < n = omega arith in subst (λ (c : Node). Stood (suc n) ws″ massN z c) (sym (node-push-old ws n k a b s z q)) (old-stood z q (nodeAt ws n z) (R .stood z q))
 
-  share-le : (nd : Node) (m : ℕ) → share nd m ≤ m
+  share-new : (nd : Node) → share nd (massN n) ≤ 1
   unfolding share
-  share-le free m = omega arith
-  share-le (link j) m = omega arith
-  share-le (leaf p) m = omega arith
-  share-le (power x) m = omega arith
-  share-le (pair x y) m = omega arith
-  share-le bad m = omega arith
+  share-new free = let m = massN-new in omega arith
+  share-new (link j) = omega arith
+  share-new (leaf p) = omega arith
+  share-new (power x) = omega arith
+  share-new (pair x y) = omega arith
+  share-new bad = omega arith
 
   heldN : sum (λ z. share (nodeAt ws″ (suc n) z) (massN z)) (suc n) ≤ suc n
   unfolding sum
   heldN =
       let p = sum-same (λ z. share (nodeAt ws n z) (R .mass z)) (λ z. share (nodeAt ws″ (suc n) z) (massN z)) n
       (λ z l. ap (λ (c : Node). share c (massN z)) (node-push-old ws n k a b s z l) ∙ ap (share (nodeAt ws n z)) (massN-old z l)) in
-      let q = share-le (nodeAt ws″ (suc n) n) (massN n) in
-      let r = massN-new in
+      let q = share-new (nodeAt ws″ (suc n) n) in
       let w = R .held in
       omega arith
 
@@ -405,8 +441,8 @@ reached-ranked (called {n = n} {ws = ws} a b β r) l =
 -- ---- how far a reference is from its end
 module _ (n : ℕ) (ws : Words) (R : Ranked n ws) where
   abbrev Chain : ℕ → ℕ → Node → Type 0
-  Chain t c free = 2 ^ (rankAt ws t + c) ≤ 2 * n
-  Chain t c (link j) = 2 ^ (rankAt ws t + c) ≤ 2 * n
+  Chain t c free = 2 ^ (rankAt ws t + c) < 2 * n
+  Chain t c (link j) = 2 ^ (rankAt ws t + c) < 2 * n
   Chain t c (leaf p) = c ≡ 0
   Chain t c (power x) = c ≡ 0
   Chain t c (pair x y) = c ≡ 0
@@ -426,28 +462,28 @@ module _ (n : ℕ) (ws : Words) (R : Ranked n ws) where
   at-end t l bad e q = absurd q
 
   -- one binding more: to a node that is no unknown, or up in rank
-  past-all : (t c : ℕ) → 2 ^ rankAt ws t ≤ n → c ≡ 0 → 2 ^ (rankAt ws t + suc c) ≤ 2 * n
+  past-all : (t c : ℕ) → 2 ^ rankAt ws t < n → c ≡ 0 → 2 ^ (rankAt ws t + suc c) < 2 * n
   past-all t c l h = let e : rankAt ws t + suc c ≡ suc (rankAt ws t) = omega arith in let w = ap (λ (k : ℕ). 2 ^ k) e in let z = pow-succ' 2 (rankAt ws t) in omega arith
 
-  up-one : (t j c : ℕ) → rankAt ws t < rankAt ws j → 2 ^ (rankAt ws j + c) ≤ 2 * n → 2 ^ (rankAt ws t + suc c) ≤ 2 * n
+  up-one : (t j c : ℕ) → rankAt ws t < rankAt ws j → 2 ^ (rankAt ws j + c) < 2 * n → 2 ^ (rankAt ws t + suc c) < 2 * n
   up-one t j c l h = let m = pow-le-pow-right {n = 2} (omega arith) {i = rankAt ws t + suc c} {j = rankAt ws j + c} (omega arith) in omega arith
 
-  further : (t j c : ℕ) → 2 ^ rankAt ws t ≤ n → (nd : Node) → (Var nd → rankAt ws t < rankAt ws j) → Chain j c nd → 2 ^ (rankAt ws t + suc c) ≤ 2 * n
-  further t j c l free up h = up-one t j c (up tt) h
-  further t j c l (link x) up h = up-one t j c (up tt) h
-  further t j c l (leaf p) up h = past-all t c l h
-  further t j c l (power x) up h = past-all t c l h
-  further t j c l (pair x y) up h = past-all t c l h
-  further t j c l bad up h = past-all t c l h
+  further : (t j c : ℕ) (nd : Node) → (Var nd → rankAt ws t < rankAt ws j) → (Solid nd → 2 ^ rankAt ws t < n) → Chain j c nd → 2 ^ (rankAt ws t + suc c) < 2 * n
+  further t j c free up few h = up-one t j c (up tt) h
+  further t j c (link x) up few h = up-one t j c (up tt) h
+  further t j c (leaf p) up few h = past-all t c (few tt) h
+  further t j c (power x) up few h = past-all t c (few tt) h
+  further t j c (pair x y) up few h = past-all t c (few tt) h
+  further t j c bad up few h = past-all t c (few tt) h
 
   chained : {t c : ℕ} {e : End (ℕ × Node)} → t < n → Follows ws n t e c → Chain t c (nodeAt ws n t)
   chained l (at-root {t} {nd} e q) = subst (λ (k : Node). Chain t 0 k) (sym e) (at-end t l nd e q)
   chained l (outside {t} e) = subst (λ (k : Node). Chain t 0 k) (sym e) refl
   chained l (along {t} {j} {c} e f) =
       let w = stood-link n ws R t j l e in
-      subst (λ (k : Node). Chain t (suc c) k) (sym e) (further t j c (w .1) (nodeAt ws n j) (w .2) (chained (w .0) f))
+      subst (λ (k : Node). Chain t (suc c) k) (sym e) (further t j c (nodeAt ws n j) (w .1) (w .2) (chained (w .0) f))
 
-  bounded : (t c : ℕ) → t < n → (nd : Node) → Chain t c nd → 2 ^ c ≤ 2 * n
+  bounded : (t c : ℕ) → t < n → (nd : Node) → Chain t c nd → 2 ^ c < 2 * n
   bounded t c l free h = let m = pow-le-pow-right {n = 2} (omega arith) {i = c} {j = rankAt ws t + c} (omega arith) in omega arith
   bounded t c l (link j) h = let m = pow-le-pow-right {n = 2} (omega arith) {i = c} {j = rankAt ws t + c} (omega arith) in omega arith
   bounded t c l (leaf p) h = let m : 2 ^ c ≡ 2 ^ 0 = ap (λ (k : ℕ). 2 ^ k) h in omega arith
@@ -455,8 +491,8 @@ module _ (n : ℕ) (ws : Words) (R : Ranked n ws) where
   bounded t c l (pair x y) h = let m : 2 ^ c ≡ 2 ^ 0 = ap (λ (k : ℕ). 2 ^ k) h in omega arith
   bounded t c l bad h = let m : 2 ^ c ≡ 2 ^ 0 = ap (λ (k : ℕ). 2 ^ k) h in omega arith
 
-  -- c bindings are followed from t only where 2^c ≤ 2 * n
-  pub follows-short : {t c : ℕ} {e : End (ℕ × Node)} → t < n → Follows ws n t e c → 2 ^ c ≤ 2 * n
+  -- c bindings are followed from t only where 2^c < 2 * n
+  pub follows-short : {t c : ℕ} {e : End (ℕ × Node)} → t < n → Follows ws n t e c → 2 ^ c < 2 * n
   follows-short {t} {c} l f = bounded t c l (nodeAt ws n t) (chained l f)
 
   -- what resolve pays, as bindings followed
@@ -484,11 +520,11 @@ module _ (n : ℕ) (ws : Words) (R : Ranked n ws) where
   walked zero β l t p r h = absurd (omega arith)
   walked (suc k) β l t p r h = walked-node β p r t (λ b j q. walked k b (omega arith) j p r) (nodeAt ws n t) refl (sym (ap (λ (m : M U ℕ). m β) (resolve-eq ws n t)) ∙ h)
 
-  ranked-short : (t : ℕ) → t < n → (β p r : ℕ) → resolve ws n t β ≡ done p r → (c : ℕ) × (c + r ≡ β) × (2 ^ c ≤ 2 * n)
+  ranked-short : (t : ℕ) → t < n → (β p r : ℕ) → resolve ws n t β ≡ done p r → (c : ℕ) × (c + r ≡ β) × (2 ^ c < 2 * n)
   ranked-short t l β p r h = let w = walked (suc β) β (omega arith) t p r h in (w .0, w .1, follows-short l (w .2 .1))
 
--- KEY: of every arena reached, with fewer than 2^32 nodes: to follow a reference costs c units only where 2^c ≤ 2 * n
-pub resolve-short : {n : ℕ} {ws : Words} → Reached n ws → n < 2 ^ 32 → (t : ℕ) → t < n → (β p r : ℕ) → resolve ws n t β ≡ done p r → (c : ℕ) × (c + r ≡ β) × (2 ^ c ≤ 2 * n)
+-- KEY: of every arena reached, with fewer than 2^32 nodes: to follow a reference costs c units only where 2^c < 2 * n
+pub resolve-short : {n : ℕ} {ws : Words} → Reached n ws → n < 2 ^ 32 → (t : ℕ) → t < n → (β p r : ℕ) → resolve ws n t β ≡ done p r → (c : ℕ) × (c + r ≡ β) × (2 ^ c < 2 * n)
 resolve-short {n} {ws} H l t tl β p r h = ranked-short n ws (reached-ranked H l) t tl β p r h
 
 -- ---- a list of operations: ranked before it, ranked after it
@@ -496,7 +532,7 @@ module _ (cap : ℕ) where
   abbrev Fine : Out U Bench → Type 0
   Fine (spent e) = Unit {0}
   Fine (halt w e) = Unit {0}
-  Fine (done s r) = Ranked (s .count) (s .words)
+  Fine (done s r) = (3 * s .count ≤ length (s .words)) × Ranked (s .count) (s .words)
 
   abbrev Ran : List Op → Type 0
   Ran os = (s : Bench) → Sound (s .count) os → s .count + nodes os < 2 ^ 32 → 3 * (s .count + nodes os) ≤ length (s .words) → Ranked (s .count) (s .words) → (β : ℕ) → Fine (exec cap os s β)
@@ -526,7 +562,7 @@ module _ (cap : ℕ) where
 
   exec-ranked : (os : List Op) → Ran os
   unfolding complain
-  exec-ranked [] s so l room R β = subst (λ (o : Out U Bench). Fine o) (sym (exec-nil cap s β)) R
+  exec-ranked [] s so l room R β = subst (λ (o : Out U Bench). Fine o) (sym (exec-nil cap s β)) (omega arith, R)
   exec-ranked (pay ∷ os) s so l room R zero = subst (λ (o : Out U Bench). Fine o) (sym (exec-unpaid cap s os)) tt
   exec-ranked (pay ∷ os) s so l room R (suc β) = subst (λ (o : Out U Bench). Fine o) (sym (exec-paid cap s os β)) (exec-ranked os s so l room R β)
   exec-ranked (make k a b ∷ os) s so l room R β = ran-make k a b os (exec-ranked os) s (so .0) (so .1) (omega arith) (omega arith) R β (decLt (s .count) cap)
@@ -535,10 +571,19 @@ module _ (cap : ℕ) where
       (ran-on p os (exec-ranked os) s (so .2) l room (unify (s .count) (s .words, a, b) β) (compared (s .count) (omega arith) (s .words) (omega arith) R a b β))
   exec-ranked (list q p ∷ os) s so l room R β = subst (λ (o : Out U Bench). Fine o) (sym (exec-listed cap s os q p β)) (exec-ranked os (complain s q p) so l room R β)
 
-  -- KEY: run from an empty arena, at every capacity and budget: to follow a reference then costs c units only where 2^c ≤ 2 * n
-  pub exec-short : (os : List Op) (s : Bench) → s .count ≡ 0 → Sound 0 os → nodes os < 2 ^ 32 → 3 * nodes os ≤ length (s .words) → (β : ℕ) (s′ : Bench) (left : ℕ) → exec cap os s β ≡ done s′ left
-      → (t : ℕ) → t < s′ .count → (β′ p r : ℕ) → resolve (s′ .words) (s′ .count) t β′ ≡ done p r → (c : ℕ) × (c + r ≡ β′) × (2 ^ c ≤ 2 * s′ .count)
-  exec-short os s z so l room β s′ left e t tl β′ p r h =
-      let R₀ : Ranked (s .count) (s .words) = subst (λ (n : ℕ). Ranked n (s .words)) (sym z) (empty-ranked (s .words)) in
-      let R : Ranked (s′ .count) (s′ .words) = subst (λ (o : Out U Bench). Fine o) e (exec-ranked os s (subst (λ (n : ℕ). Sound n os) (sym z) so) (omega arith) (omega arith) R₀ β) in
-      ranked-short (s′ .count) (s′ .words) R t tl β′ p r h
+  module _ (os : List Op) (s : Bench) (z : s .count ≡ 0) (so : Sound 0 os) (l : nodes os < 2 ^ 32) (room : 3 * nodes os ≤ length (s .words)) (β : ℕ) (s′ : Bench) (left : ℕ) (e : exec cap os s β ≡ done s′ left) where
+    ranked-after : (3 * s′ .count ≤ length (s′ .words)) × Ranked (s′ .count) (s′ .words)
+    ranked-after =
+        let R : Ranked (s .count) (s .words) = subst (λ (n : ℕ). Ranked n (s .words)) (sym z) (empty-ranked (s .words)) in
+        subst (λ (o : Out U Bench). Fine o) e (exec-ranked os s (subst (λ (n : ℕ). Sound n os) (sym z) so) (omega arith) (omega arith) R β)
+
+    -- KEY: run from an empty arena, at every capacity and budget: to follow a reference then costs c units only where 2^c < 2 * n
+    pub exec-short : (t : ℕ) → t < s′ .count → (γ p r : ℕ) → resolve (s′ .words) (s′ .count) t γ ≡ done p r → (c : ℕ) × (c + r ≡ γ) × (2 ^ c < 2 * s′ .count)
+    exec-short t tl γ p r h = ranked-short (s′ .count) (s′ .words) (ranked-after .1) t tl γ p r h
+
+    -- and so it does in the midst of a comparison that follows: over the words that stand where its budget ends, wherever that is, or when it is answered
+    pub exec-short-within : (a b δ t : ℕ) → t < s′ .count → (γ p r : ℕ) → resolve (after (unify (s′ .count) (s′ .words, a, b) δ)) (s′ .count) t γ ≡ done p r → (c : ℕ) × (c + r ≡ γ) × (2 ^ c < 2 * s′ .count)
+    exec-short-within a b δ t tl γ p r h =
+        let n : s′ .count ≡ s .count + nodes os = subst (λ (o : Out U Bench). Counts os s o) e (exec-counts cap os s β) in
+        let w = ranked-after in
+        ranked-short (s′ .count) (after (unify (s′ .count) (s′ .words, a, b) δ)) (compared (s′ .count) (omega arith) (s′ .words) (w .0) (w .1) a b δ .1) t tl γ p r h

@@ -2,7 +2,7 @@
 --
 -- `chain`: two comparisons that succeed admit just the assignments that equate three references. `chain-fails`: where the second one fails, none does.
 -- `fixed-then`, `typed-then`: a reference that was told solved has one type in all of them, and that type is read with the same budget.
--- `twelve-bindings`: in an arena of 2,048 nodes no reference is more than 12 bindings from its end.
+-- `eleven-bindings`: in an arena of 2,048 nodes no reference is more than 11 bindings from its end.
 -- `power-made`, `power-admitted`: a list of operations that makes an unknown and its power ends at every budget, and then the second is the power of the first.
 -- `left-bound-too`: a list that was run lists, where of two unknowns always the left one is bound, the same problems, and fixes the same references.
 use Prim.Native.Nat.{ℕ, suc, _+_, _*_, _^_, _≤_, _<_}
@@ -52,13 +52,13 @@ module _ {n : ℕ} {ws : Words} (R : Reached n ws) (t : ℕ) (tl : t < n) (β r 
   typed-then = read-law R t tl β r e
 
 -- what following a reference costs
-pub twelve-bindings : {n : ℕ} {ws : Words} → Reached n ws → n ≤ 2048 → (t : ℕ) → t < n → (β p r : ℕ) → resolve ws n t β ≡ done p r → β ≤ 12 + r
-twelve-bindings {n} R l t tl β p r e =
+pub eleven-bindings : {n : ℕ} {ws : Words} → Reached n ws → n ≤ 2048 → (t : ℕ) → t < n → (β p r : ℕ) → resolve ws n t β ≡ done p r → β ≤ 11 + r
+eleven-bindings {n} R l t tl β p r e =
     let z = resolve-short R (omega arith) t tl β p r e in
-    at (z .0) (z .1) (z .2) (decLt 12 (z .0))
+    at (z .0) (z .1) (z .2) (decLt 11 (z .0))
   where
-    at : (c : ℕ) → c + r ≡ β → 2 ^ c ≤ 2 * n → Dec (12 < c) → β ≤ 12 + r
-    at c q h (yes k) = let m = pow-le-pow-right {n = 2} (omega arith) {i = 13} {j = c} k in absurd (omega arith)
+    at : (c : ℕ) → c + r ≡ β → 2 ^ c < 2 * n → Dec (11 < c) → β ≤ 11 + r
+    at c q h (yes k) = let m = pow-le-pow-right {n = 2} (omega arith) {i = 12} {j = c} k in absurd (omega arith)
     at c q h (no k) = omega arith
 
 -- a list that listed nothing is met by all that is admitted after it
