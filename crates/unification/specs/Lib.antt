@@ -22,6 +22,8 @@ pub mod Histories
 pub mod ByRule
 pub mod BothWays
 pub mod Carry
+pub mod Sums
+pub mod Ranked
 pub mod Short
 pub mod Shapes
 pub mod Direction
