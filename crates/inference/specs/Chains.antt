@@ -1,8 +1,8 @@
 -- However long a formula's chain of equalities, no reference of its walk is ever more than a few bindings from its end.
 --
 -- `chains-short`: after any first part of a walk's operations, run at any capacity inside the limits and any budget, to follow a reference costs c units only where
--- 2^c is less than twice the count of nodes there. `chains-short-within`: and so it does at every point of a comparison that follows. `fifteen-bindings`: so never
--- more than 15, the capacity being 32,768 at most.
+-- 2^c is less than twice the count of nodes there. `chains-short-within`: and so it does at every point of a comparison that follows. `fifteen-bindings`, `fifteen-within`:
+-- so never more than 15, the capacity being 32,768 at most.
 use Prim.Native.Nat.{ℕ, _+_, _*_, _-_, _^_, _≤_, _<_}
 use mathlib.Core.Path.{_≡_, refl, sym, _∙_, ap, subst}
 use mathlib.Core.List.{List, _++_}
@@ -93,6 +93,9 @@ module _ (Γ : Env) (f : Formula) (os qs : List Op) (parts : walked Γ f .ops �
       at : Dec (15 < c) → c ≤ 15
       at (yes l) = let m = pow-le-pow-right {n = 2} (omega arith) {i = 16} {j = c} l in let e = counted in let k = few in absurd (omega arith)
       at (no l) = omega arith
+
+  pub fifteen-within : (a b units t : ℕ) → t < s .count → (β p r : ℕ) → resolve (after (unify (s .count) (s .words, a, b) units)) (s .count) t β ≡ done p r → (c : ℕ) × (c + r ≡ β) × (c ≤ 15)
+  fifteen-within a b units t tl β p r h = let z = chains-short-within a b units t tl β p r h in (z .0, z .1, fifteen (z .0) (z .2))
 
   pub fifteen-bindings : (t : ℕ) → t < s .count → (β p r : ℕ) → resolve (s .words) (s .count) t β ≡ done p r → (c : ℕ) × (c + r ≡ β) × (c ≤ 15)
   fifteen-bindings t tl β p r h = let z = chains-short t tl β p r h in let k = fifteen (z .0) (z .2) in (z .0, z .1, omega arith)
