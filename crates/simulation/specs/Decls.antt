@@ -297,7 +297,7 @@ module _ (Γ : Env) (env : List ℕ) (cap room : ℕ) (wide : cap ≤ 32768) (br
 
   listed-none : (m : Mach) (B : List ℕ) → Runs Γ env cap room m m (done []) B (λ xs. over xs B) (λ xs v. (v.st.at.0 ≡ m.st.at.0 + 0) × (length xs ≡ 0))
   unfolding over done
-  listed-none m B = let z : m.st.at.0 ≡ m.st.at.0 + 0 = omega arith in record { ends = λ b row s1 o q l. (runs_stand Γ env cap room m m.st.at.0 m.st.from.0 m.st.last.0 [] B (λ xs v. (v.st.at.0 ≡ m.st.at.0 + 0) × (length xs ≡ 0)) (z, refl)).ends b row s1 o q l }
+  listed-none m B = let z : m.st.at.0 ≡ m.st.at.0 + 0 = omega arith in record { ends = λ b row s1 o q l. (runs_stand Γ env cap room {A = List ℕ} m m.st.at.0 m.st.from.0 m.st.last.0 [] B (λ xs v. (v.st.at.0 ≡ m.st.at.0 + 0) × (length xs ≡ 0)) (z, refl)).ends b row s1 o q l }
 
   at-placed : (z : Decl) (p : ℕ) → PlacedDecl p z → at_decl Γ z ≡ p
   unfolding at_decl PlacedDecl

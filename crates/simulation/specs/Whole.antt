@@ -2,7 +2,7 @@
 -- Fresh: nothing in the arena, the books empty but for the entries of the environment, no output, at place 0. Where the operations end, the machine
 -- holds their bench (`Stands`), the names that they met (`Named`) and their slots (`Slots`, `Filled`), with what is left of the budget; where they are
 -- spent it has stopped with 7, where the arena is full with 6. Nothing else can happen.
-use Rattle.std.specs.Prelude.{ℕ, ◌*◌, ◌≤◌, ◌<◌, ◌≡◌, refl, false, length, get_or, eqb}
+use Rattle.std.specs.Prelude.{ℕ, ◌+◌, ◌*◌, ◌≤◌, ◌<◌, ◌≡◌, refl, false, length, get_or, eqb}
 use Rattle.std.proofs.Math.Path.{sym, ap}
 use Rattle.std.proofs.Common.{◌∙◌, subst, arith, eq-eqb}
 use mathlib.Core.List.{List, [], ◌++◌}
@@ -11,7 +11,7 @@ use Rattle.meter.specs.Meter.{Out, spent, halt, broken, full}
 use Rattle.meter.specs.Meter as Mt
 use Rattle.formula.specs.Environment.{Env}
 use Rattle.formula.specs.Tree.{Formula}
-use Rattle.formula.specs.Spell.{spell_formula, PlacedFormula}
+use Rattle.formula.specs.Spell.{spell_formula, size_formula, PlacedFormula}
 use Rattle.formula_laws.specs.Fits.{FitsFormula}
 use Rattle.unification.specs.Arena.{U}
 use Rattle.unification.specs.Trees.{var}
@@ -127,5 +127,5 @@ module _ (Γ : Env) (env : List ℕ) (cap room : ℕ) (wide : cap ≤ 32768) (br
       let n = (tame_formula Γ f).counts 0 [] in
       let z = h.no_slots in
       let l = fits.0 in
-      reopened Γ env cap room m (formula_of s env m) (walk_formula Γ f 0 []) _ (exec cap (walk_formula Γ f 0 []).ops (start m.arena) m.st.budget)
+      reopened Γ env cap room m (formula_of s env m) (walk_formula Γ f 0 []) (λ x v. v.st.at.0 ≡ 0 + size_formula f) (exec cap (walk_formula Γ f 0 []).ops (start m.arena) m.st.budget)
       (r.ends (start m.arena) [] (fresh-stands Γ env cap room m h) (fresh_books Γ env cap room m h) ((safe-formula Γ f).safe 0 (omega arith) [] none_in).0 (omega arith))

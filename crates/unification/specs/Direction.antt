@@ -225,6 +225,28 @@ module _ (by : Direction) (n : ℕ) (us : Words) (s : 3 * n ≤ length us) (G : 
         let w = rec i m (omega arith) l.0 r.0 g in
         let w' = rec j q (omega arith) l.1 r.1 g' in
         (suc (d + (w.0 + w'.0)), halves p (ap₂ meet e f) w.1 w'.1)
+    agreed_at h free (link _) e f x8 = elim x8 [ ]
+    agreed_at h free (leaf j) e f x8 = elim x8 [ ]
+    agreed_at h free (power j) e f x9 = elim x9 [ ]
+    agreed_at h free (pair m q) e f x10 = elim x10 [ ]
+    agreed_at h free bad e f x11 = elim x11 [ ]
+    agreed_at h (link _) y e f x6 = elim x6 [ ]
+    agreed_at h (leaf i) free e f x7 = elim x7 [ ]
+    agreed_at h (leaf i) (link _) e f x9 = elim x9 [ ]
+    agreed_at h (leaf i) (power j) e f x9 = elim x9 [ ]
+    agreed_at h (leaf i) (pair m q) e f x10 = elim x10 [ ]
+    agreed_at h (leaf i) bad e f x11 = elim x11 [ ]
+    agreed_at h (power i) free e f x8 = elim x8 [ ]
+    agreed_at h (power i) (link _) e f x10 = elim x10 [ ]
+    agreed_at h (power i) (leaf j) e f x10 = elim x10 [ ]
+    agreed_at h (power i) (pair m q) e f x11 = elim x11 [ ]
+    agreed_at h (power i) bad e f x12 = elim x12 [ ]
+    agreed_at h (pair i j) free e f x9 = elim x9 [ ]
+    agreed_at h (pair i j) (link _) e f x11 = elim x11 [ ]
+    agreed_at h (pair i j) (leaf _) e f x12 = elim x12 [ ]
+    agreed_at h (pair i j) (power _) e f x13 = elim x13 [ ]
+    agreed_at h (pair i j) bad e f x13 = elim x13 [ ]
+    agreed_at h bad y e f x9 = elim x9 [ ]
 
   agreed_roots : (k : ℕ) → ((a b : ℕ) → size (G.tree a) < k → a < n → b < n → Equal a b → Agreed a b) → (a b : ℕ) → size (G.tree a) ≤ k → a < n → b < n → Equal a b
       → (x : Leads n us G a) (y : Leads n us G b) → Dec (x.0.0 ≡ y.0.0) → Agreed a b

@@ -60,7 +60,7 @@ module _ (Γ : Env) (τ ρ : ℕ → Ty) where
   complete_lift (base int) = complete_node τ ρ INTEGER 0 0 (base int) (λ σ n c e. e)
   complete_lift (base (given x)) = complete_node τ ρ GIVEN x 0 (base (given x)) (λ σ n c e. e)
   complete_lift (pow t) = complete_bind τ ρ (tame_lift {Γ = Γ} t) (complete_lift t) (λ x. complete_node τ ρ POWER x 0 (pow t) (λ σ n c e. e ∙ ap pow (sym c.1)))
-  complete_lift (prod t u) = complete_bind τ ρ (tame_lift {Γ = Γ} t) (complete_lift t) (λ x. complete_bind τ ρ (tame_lift {Γ = Γ} u) (complete_lift u)
+  complete_lift {k = k} (prod t u) = complete_bind τ ρ (tame_lift {Γ = Γ} t) (complete_lift {k = k} t) (λ x. complete_bind τ ρ (tame_lift {Γ = Γ} u) (complete_lift {k = k + 0} u)
       (λ y. complete_node τ ρ PRODUCT x y (prod t u) (λ σ n c e. e ∙ ap₂ prod (sym c.0.1) (sym c.1))))
 
 -- ---- names
@@ -389,7 +389,7 @@ module _ (Γ : Env) (τ ρ : ℕ → Ty) (agrees : (x : ℕ) (t : Ty) → Γ x �
   complete_notes (base int) p h = complete_done τ ρ tt (λ σ c. tt)
   complete_notes (base (given x)) p h = complete_note_of (Γ x) x p h
   complete_notes (pow t) p h = complete_notes t p h
-  complete_notes (prod t u) p h = complete_bind τ ρ (tame_notes Γ t p) (complete_notes t p h.0) (λ _. complete_notes u p h.1)
+  complete_notes {k = k} (prod t u) p h = complete_bind τ ρ (tame_notes Γ t p) (complete_notes {k = k} t p h.0) (λ _. complete_notes {k = k + 0} u p h.1)
 
   pub complete_meets : {k : ℕ} {C : Assignment → Type 0} (t : Ty) (x p : ℕ) → ((σ : Assignment) → C σ → σ x ≡ t) → Complete τ ρ k (meets Γ t x p) C (λ σ u. Unit {0})
   unfolding meets
@@ -425,5 +425,5 @@ module _ (Γ : Env) (τ ρ : ℕ → Ty) (agrees : (x : ℕ) (t : Ty) → Γ x �
   complete_declare {k = k} (d ∷ ds) w =
       complete_bind τ ρ {Γ = Γ} (tame_enter (tame_own (at_decl Γ d) (tame_node UNKNOWN 0 0))) (complete_enter τ ρ (complete_own τ ρ (at_decl Γ d) (complete_node τ ρ UNKNOWN 0 0 (τ k) (λ σ n c e. tt))))
       (λ x. complete_bind τ ρ (tame_claim Γ d x) (complete_claim d x k w.0 (λ σ c. c.1))
-      (λ _. complete_bind τ ρ (tame_declare Γ ds) (complete_declare ds (let k' : k + 1 + 0 ≡ suc k = omega arith in rw k' w.1))
+      (λ _. complete_bind τ ρ (tame_declare Γ ds) (complete_declare {k = k + 1 + 0} ds (let k' : k + 1 + 0 ≡ suc k = omega arith in rw k' w.1))
       (λ xs. complete_done τ ρ (x ∷ xs) (λ σ c. (c.0.0.1, (let k' : k + 1 + 0 ≡ suc k = omega arith in rw (sym k') c.1))))))

@@ -192,7 +192,7 @@ module _ (Γ : Env) (τ ρ : ℕ → Ty) (agrees : Agrees Γ ρ) where
   unfolding shares
   complete_shares [] ys p C h = complete_done τ ρ tt (λ σ c. tt)
   complete_shares (x ∷ xs) [] p C h = complete_done τ ρ tt (λ σ c. tt)
-  complete_shares (x ∷ xs) (y ∷ ys) p C h = complete_bind τ ρ {Γ = Γ} (tame_same y x p) (complete_same τ ρ y x p (λ σ c. (h σ c).0)) (λ _. complete_shares xs ys p _ (λ σ c. (h σ c.0).1))
+  complete_shares {k = k} (x ∷ xs) (y ∷ ys) p C h = complete_bind τ ρ {Γ = Γ} (tame_same y x p) (complete_same τ ρ y x p (λ σ c. (h σ c).0)) (λ _. complete_shares {k = k + 0} xs ys p _ (λ σ c. (h σ c.0).1))
 
   abbrev Any : Assignment → Type 0
   Any σ = Unit {0}
