@@ -1,5 +1,7 @@
 // The finish of a walk, and the answer's bytes: names, then slots, are tested for unknowns; their types are written from the arena straight into
 // the output.
+#![tactic(auto)]
+
 ghost use Rattle.std.specs.Prelude.{◌≡◌, ℕ, ◌≤◌, take};
 ghost use Rattle.unification.specs.Put.{put};
 ghost use Rattle.write.specs.Answers.{laid};

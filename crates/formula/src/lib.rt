@@ -1,5 +1,7 @@
 // The form of formulas and environments: what streams of bytes spell a formula or an environment inside the limits,
 // and the first fault of any other stream.
+#![tactic(auto)]
+
 ghost use Rattle.std.specs.Prelude.{◌≡◌, Bool, true, false, ℕ, ◌+◌, ◌*◌, ◌-◌, ◌<◌, ◌≤◌, [], length, get_or, leb};
 ghost use Rattle.types.specs.Record.{type_at, reach};
 ghost use Rattle.types.specs.Code.{end_of};
@@ -26,7 +28,7 @@ const MAX_OPENED: u32 = types::MAX_OPENED;
 const MAX_NAMES: u32 = types::MAX_NAMES;
 
 // Where the reader stands: the next byte, the slots so far, the declarations that are open.
-#[derive(Drop)]
+#[derive(Clone, Copy)]
 pub struct St {
     pub at: Place,
     pub slots: u32,
@@ -34,14 +36,14 @@ pub struct St {
 }
 
 // A record that is malformed, or one that passes a limit.
-#[derive(Drop)]
+#[derive(Clone, Copy)]
 pub enum Fault {
     Malformed(Place),
     Beyond(Place),
 }
 
 // The state after a reading, or its first fault. A fault passes through whatever would come after it.
-#[derive(Drop)]
+#[derive(Clone, Copy)]
 pub enum Out {
     Next(St),
     Stop(Fault),
@@ -404,7 +406,7 @@ fn read_formula(s: &[u8], names: u32, st: St) -> Out
 }
 
 // What the test of a stream answers. `TooLong`: over 16,384 bytes.
-#[derive(Drop)]
+#[derive(Clone, Copy)]
 pub enum Form {
     Good,
     TooLong,
@@ -442,7 +444,7 @@ pub fn check_formula(s: &[u8], names: u32) -> Form
 
 // What the test of an environment answers: its form, and for each name the place of its type plus 1, or 0.
 // After a fault, or for a stream that is too long, every cell is 0.
-#[derive(Drop)]
+#[derive(Clone, Copy)]
 pub struct Environment {
     pub form: Form,
     pub types: [u32; 256],
@@ -479,7 +481,7 @@ fn ended(s: &[u8], at: u32) -> bool
 }
 
 // An entry: its name, the place of its type, and where it ends; or its first fault.
-#[derive(Drop)]
+#[derive(Clone, Copy)]
 pub enum Entered {
     Wrong(Fault),
     Typed(u16, Place, Place),

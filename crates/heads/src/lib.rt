@@ -2,6 +2,8 @@
 // and the walk read expressions, predicates and declarations by these functions; type records have `types::head_at`. Any
 // bytes may be given; of a stream that is longer than a place can number, the bytes past the last place are as if they were
 // not there.
+#![tactic(auto)]
+
 ghost use Rattle.std.specs.Prelude.{◌≡◌, ℕ, ◌+◌, ◌*◌, ◌-◌, ◌<◌, ◌≤◌, length, get_or};
 ghost use Rattle.types.specs.Record.{reach};
 ghost use Rattle.heads.specs.Heads.{byte_at, word_at, name_at, op_at, count_at, few_at, expr_body, expr_head, pred_body, pred_head, pred_end, decl_body, decl_head, decl_end, target_at, assignment_at, root_head};
@@ -9,21 +11,21 @@ ghost use Rattle.heads.specs.Heads.{byte_at, word_at, name_at, op_at, count_at, 
 use types::{Name, Place};
 
 // A byte and the place after it.
-#[derive(Drop)]
+#[derive(Clone, Copy)]
 pub enum Byte {
     Missing,
     Of(u8, Place),
 }
 
 // A number of two bytes and the place after it.
-#[derive(Drop)]
+#[derive(Clone, Copy)]
 pub enum Word {
     Missing,
     Of(u16, Place),
 }
 
 // An expression's head, with the place after it.
-#[derive(Drop)]
+#[derive(Clone, Copy)]
 pub enum ExprHead {
     Free(Name, Place),
     Bound(u16, Place),
@@ -40,7 +42,7 @@ pub enum ExprHead {
 }
 
 // A predicate's head.
-#[derive(Drop)]
+#[derive(Clone, Copy)]
 pub enum PredHead {
     Constant(Place),
     Variable(Place),
@@ -55,7 +57,7 @@ pub enum PredHead {
 }
 
 // A declaration's head.
-#[derive(Drop)]
+#[derive(Clone, Copy)]
 pub enum DeclHead {
     Plain(Place),
     Typed(Place),
@@ -63,19 +65,19 @@ pub enum DeclHead {
 }
 
 // Whether a well-formed head of its class stands at a place; nothing is said of the records below it.
-#[derive(Drop)]
+#[derive(Clone, Copy)]
 pub enum ExprAt {
     Wrong,
     Is(ExprHead),
 }
 
-#[derive(Drop)]
+#[derive(Clone, Copy)]
 pub enum PredAt {
     Wrong,
     Is(PredHead),
 }
 
-#[derive(Drop)]
+#[derive(Clone, Copy)]
 pub enum DeclAt {
     Wrong,
     Is(DeclHead),
@@ -83,7 +85,7 @@ pub enum DeclAt {
 
 // What a whole formula begins with: an expression, a predicate, or one of the three assignments, with the count of its
 // targets and the place of the first.
-#[derive(Drop)]
+#[derive(Clone, Copy)]
 pub enum RootAt {
     Wrong,
     Expression,

@@ -4,7 +4,7 @@ ghost use Rattle.runner.specs.Answers.{told};
 
 use runner::Answer;
 
-#[derive(Drop)]
+#[derive(Clone, Copy)]
 pub struct Told {
     pub number: u32,
     pub place: u64,

@@ -1,5 +1,7 @@
 // A type record of a byte slice, lifted into the arena: its parts first, the left one first, then the node itself. Any bytes are taken: where no
 // type record stands, or one deeper than `left` levels, the answer is `Broken`. Nodes that were made before the capacity ended stand.
+#![tactic(auto)]
+
 ghost use Rattle.std.specs.Prelude.{◌≡◌};
 ghost use Rattle.types.specs.Code.{atom_is};
 ghost use Rattle.unification.specs.Arena.{leaf};
@@ -12,7 +14,7 @@ use makers::Made;
 use types::{Atom, Head, NodeRef};
 
 // The node of the type, and the place after its record; the capacity is used (6); no type record stands here (2).
-#[derive(Drop)]
+#[derive(Clone, Copy)]
 pub enum Lifted {
     At(NodeRef, usize),
     Full,

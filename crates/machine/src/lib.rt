@@ -1,5 +1,7 @@
 // The walk's machine: its state, and the steps that every walk is made of. The state goes by value; the arena is the first `size` words of the
 // work slice, the book stands behind it, and problems go straight into the output. A stopped state passes through every step unchanged.
+#![tactic(auto)]
+
 ghost use Rattle.std.specs.Prelude.{◌≡◌, ℕ, ◌+◌, ◌*◌, ◌-◌, ◌<◌, ◌≤◌, List, length, get_or, take, drop, set};
 ghost use Rattle.types.specs.Code.{atom_is};
 ghost use Rattle.heads.specs.declared.DeclAt.TheVariants.{Is};
@@ -21,7 +23,7 @@ use unifier::{Told, Unified};
 // ---- the state
 
 // What the walk carries. `stop` is 0 while it goes on, else the number it stops with: 6, 7, or 2 for what cannot happen once the form is tested.
-#[derive(Drop)]
+#[derive(Clone, Copy)]
 pub struct State {
     // the next byte of the formula
     pub at: Place,
@@ -797,7 +799,7 @@ pub fn declare(
 // ---- scripts, played
 
 // What a script is played with: the references and places of the parts, the record's place, and the count of nodes as it begins.
-#[derive(Drop)]
+#[derive(Clone, Copy)]
 pub struct Parts {
     pub left: NodeRef,
     pub right: NodeRef,

@@ -2,6 +2,8 @@
 // Kinds: 0x40 BOOL, 0x41 ℤ, 0x42 a given set (its name), 0x43 power (a node), 0x44 product (two nodes), 0x4E an unknown.
 // `count` is the number of nodes. Every function takes any words, counts and references.
 // What each makes is a definition of crate `unification`: `specs/Answers` says how an answer is read as that definition's outcome.
+#![tactic(auto)]
+
 ghost use Rattle.std.specs.Prelude.{◌≡◌, ◌+◌, ◌*◌, ◌<◌, length};
 ghost use Rattle.types.specs.Ty.{bool, int, given};
 ghost use Rattle.unification.specs.Arena.{free, leaf, power, pair};
@@ -11,7 +13,7 @@ ghost use Rattle.makers.specs.Answers.{made};
 use types::{Name, NodeRef};
 
 // A node was made at a reference; the capacity is used (6); no node can be made here (2).
-#[derive(Drop)]
+#[derive(Clone, Copy)]
 pub enum Made {
     At(NodeRef),
     Full,

@@ -1,4 +1,6 @@
 // The lent memory is cleared after use.
+#![tactic(auto)]
+
 ghost use Rattle.std.specs.Prelude.{◌≡◌, List, ◌++◌, ℕ, ◌+◌, ◌-◌, ◌≤◌, length, take, replicate};
 ghost use Rattle.memory.specs.Memory.{cleared};
 

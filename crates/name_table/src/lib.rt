@@ -1,5 +1,7 @@
 // Names, and the tables that number them: a table is a row of records, each a byte of kind (80 and the name's length) and the name.
 // Every function answers on any bytes; `table_is_good` says whether a table follows the rules, and only then do the numbers mean names.
+#![tactic(auto)]
+
 ghost use Rattle.std.specs.Prelude.{◌≡◌, ℕ, ◌<◌, length};
 ghost use Rattle.name_table.specs.Words.{letter, word_byte, is_word, same};
 ghost use Rattle.name_table.specs.Table.{names, find, name_end, Located, good_name, good_table};
@@ -7,14 +9,14 @@ ghost use Rattle.name_table.specs.Table.{names, find, name_end, Located, good_na
 use types::Name;
 
 // The number of a word in a name table.
-#[derive(Drop)]
+#[derive(Clone, Copy)]
 pub enum Found {
     At(Name),
     Nothing,
 }
 
 // Where a name's bytes stand in a name table.
-#[derive(Drop)]
+#[derive(Clone, Copy)]
 pub enum Part {
     From(usize, usize),
     Missing,

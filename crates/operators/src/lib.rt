@@ -1,5 +1,7 @@
 // The rules of the operators as data: the nodes and comparisons of each are a script. A script is numbered; its row says which items it plays and
 // what it gives.
+#![tactic(auto)]
+
 mod tables;
 
 ghost use Rattle.std.specs.Prelude.{◌≡◌, ℕ, ◌+◌, ◌<◌, ◌≤◌, get_or};
@@ -165,7 +167,7 @@ pub fn check_relational(op: u8) -> u8
 
 // What is done with any number of children: a script before them, a script before each one that gives what it is compared with, and a script after
 // them. `mode` 0: no comparison; 1: each child with the same node; 2: each with a node of its own, which begins where the one before it ended.
-#[derive(Drop)]
+#[derive(Clone, Copy)]
 pub struct Plan {
     pub first: u8,
     pub link: u8,
@@ -211,7 +213,7 @@ pub fn check_associative(op: u8) -> Plan
 }
 
 // A script: its first item, the item after its last one, the operand that it gives.
-#[derive(Drop)]
+#[derive(Clone, Copy)]
 pub struct Script {
     pub from: u8,
     pub until: u8,
@@ -237,7 +239,7 @@ pub fn script_at(n: u8) -> Script
     }
 }
 
-#[derive(Drop)]
+#[derive(Clone, Copy)]
 pub struct Item {
     pub kind: u8,
     pub x: u8,

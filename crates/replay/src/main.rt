@@ -191,7 +191,7 @@ fn agrees(list: &[u8], line: usize) -> bool {
 // ---- a list
 
 // How many lines were asked, how many were answered as they say, and how many bytes they are.
-#[derive(Drop)]
+#[derive(Clone, Copy)]
 struct Tally {
     asked: u64,
     answered: u64,

@@ -1,4 +1,6 @@
 // The stages of inference that its entry puts together around the walk: the test of sizes, the start, the answer, and what is left behind.
+#![tactic(auto)]
+
 ghost use Rattle.std.specs.Prelude.{◌≡◌, List, ℕ, ◌+◌, ◌*◌, ◌-◌, ◌<◌, ◌≤◌, length};
 ghost use Rattle.inference.specs.Infer.{sized};
 ghost use Rattle.machine.specs.Machine.{mach};
@@ -13,7 +15,7 @@ use machine::State;
 use types::{NodeRef, Place};
 
 // What inference answers.
-#[derive(Drop)]
+#[derive(Clone, Copy)]
 pub enum Answer {
     // 0: the bytes written and the steps taken
     Typed(usize, u64),

@@ -1,12 +1,14 @@
 // The two text entries for a host in another language: numbers and byte slices only. The result is the answer's number; place and length are
 // always written, and the page is as `type_text` leaves it.
+#![tactic(auto)]
+
 ghost use Rattle.std.specs.Prelude.{◌≡◌};
 ghost use Rattle.type_text.specs.Answer.{number_of, place_of, length_of, read_answer, read_page, write_answer, write_page};
 
 use type_text::Answer;
 
 // An answer as three numbers.
-#[derive(Drop)]
+#[derive(Clone, Copy)]
 pub struct Told {
     pub number: u32,
     pub place: u64,

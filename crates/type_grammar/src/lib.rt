@@ -1,4 +1,6 @@
 // The tokens of type text, and the fixed byte strings that the reader compares and the writer writes.
+#![tactic(auto)]
+
 ghost use Rattle.std.specs.Prelude.{◌≡◌, ℕ, ◌≤◌, length, drop};
 ghost use Rattle.name_table.specs.Table.{names};
 ghost use Rattle.type_grammar.specs.Token.{starts, word_token_at, token_at};
@@ -19,7 +21,7 @@ pub const CLOSE: [u8; 1] = [0x29];
 pub const TIMES: [u8; 2] = [0xC3, 0x97];
 
 // A token, with the offset after it.
-#[derive(Drop)]
+#[derive(Clone, Copy)]
 pub enum Token {
     Leaf(Atom, usize),
     Power(usize),

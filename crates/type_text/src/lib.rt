@@ -1,4 +1,6 @@
 // Types as text: `write` turns a type record into its canonical text, `read` a text into its record. Both take a name table and a lent page.
+#![tactic(auto)]
+
 mod page;
 pub mod reader;
 mod writer;
@@ -14,14 +16,14 @@ use writer::Measured;
 const MAX_DEPTH: u8 = types::MAX_DEPTH as u8;
 
 // The first fault of a record or of a text.
-#[derive(Drop)]
+#[derive(Clone, Copy)]
 pub enum Fault {
     Malformed(usize),
     Deep(usize),
 }
 
 // What an entry answers: the count of bytes written, or a refusal with its place. Bad: the name table, or a position past the page's end.
-#[derive(Drop)]
+#[derive(Clone, Copy)]
 pub enum Answer {
     Done(usize),
     Bad,

@@ -3,7 +3,7 @@ ghost use Rattle.std.specs.Prelude.{◌≡◌, ℕ, ◌+◌, ◌≤◌, length};
 ghost use Rattle.type_text.specs.Page.{spend_of, Splice};
 
 // What is left of a page, or that it is overrun. Nothing is added up, so nothing can wrap.
-#[derive(Drop)]
+#[derive(Clone, Copy)]
 pub enum Room {
     Left(usize),
     Over,

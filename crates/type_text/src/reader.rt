@@ -17,7 +17,7 @@ use type_grammar::Token;
 use types::Atom;
 
 // Where the reader stands, and how many operands may still nest: at 0 the next one is refused unread.
-#[derive(Drop)]
+#[derive(Clone, Copy)]
 pub struct Cursor {
     pub at: usize,
     pub left: u8,
@@ -39,7 +39,7 @@ impl Cursor {
 }
 
 // The offset after a type's text, the type's depth (65 stands for any more) and the room that its record leaves; or the first fault.
-#[derive(Drop)]
+#[derive(Clone, Copy)]
 pub enum Scanned {
     Type(usize, u8, Room),
     Stop(Fault),

@@ -15,14 +15,14 @@ use type_grammar::{CLOSE, INTEGER, OPEN, POWER, TIMES};
 use types::{Atom, Head};
 
 // Where a type record ends and the room that its text leaves; or the first fault.
-#[derive(Drop)]
+#[derive(Clone, Copy)]
 pub enum Measured {
     Type(usize, Room),
     Stop(Fault),
 }
 
 // Where a type record ends and how many bytes were written for it.
-#[derive(Drop)]
+#[derive(Clone, Copy)]
 pub struct Wrote {
     pub end: usize,
     pub width: usize,

@@ -1,4 +1,6 @@
 // Type records, and the kinds of number that the checker keeps apart.
+#![tactic(auto)]
+
 ghost use Rattle.std.specs.Prelude.{◌≡◌, ℕ, ◌+◌, ◌≤◌, ◌<◌, length, drop};
 ghost use Rattle.types.specs.Record.{reach, given_of, head_of, type_at};
 ghost use Rattle.types.specs.Code.{head_is, end_of};
@@ -25,19 +27,19 @@ pub const BOOK: usize = 4096;
 // ---- kinds of number
 
 // A node of the arena.
-#[derive(Drop)]
+#[derive(Clone, Copy)]
 pub struct NodeRef(pub u32);
 
 // A name's number.
-#[derive(Drop)]
+#[derive(Clone, Copy)]
 pub struct Name(pub u32);
 
 // A byte offset into a stream.
-#[derive(Drop)]
+#[derive(Clone, Copy)]
 pub struct Place(pub u32);
 
 // A type without parts.
-#[derive(Drop)]
+#[derive(Clone, Copy)]
 pub enum Atom {
     Bool,
     Integer,
@@ -45,7 +47,7 @@ pub enum Atom {
 }
 
 // What a type record begins with, and the offset after its body.
-#[derive(Drop)]
+#[derive(Clone, Copy)]
 pub enum Head {
     Atomic(Atom, usize),
     Power(usize),
@@ -54,7 +56,7 @@ pub enum Head {
 }
 
 // Where a type record ends, with its parts; or its first fault.
-#[derive(Drop)]
+#[derive(Clone, Copy)]
 pub enum TypeEnd {
     End(Place),
     Malformed(Place),

@@ -1,5 +1,7 @@
 // The unifier for a Rust host that measures it and compares it with a plain one: references are numbers, the budget goes in and out by `budget`,
 // and the result is 0 for yes, 1 for no, 100 for a mismatch, 101 for a circularity, 7 for a spent budget and 2 for a broken node.
+#![tactic(auto)]
+
 ghost use Rattle.std.specs.Prelude.{◌≡◌};
 ghost use Rattle.unification.specs.Arena.{unify, solved};
 ghost use Rattle.unifier_trial.specs.Numbers.{unified_as, told_as};

@@ -1,6 +1,8 @@
 // The walk over a formula's bytes: expressions and predicates call each other with the remaining depth falling. A record is known by its head,
 // read by the functions of the test of form. Every function takes any bytes: where the form was tested no malformed record is met, and elsewhere
 // the walk may stop with 2.
+#![tactic(auto)]
+
 ghost use Rattle.std.specs.Prelude.{◌≡◌, ℕ, ◌+◌, ◌*◌, ◌-◌, ◌<◌, ◌≤◌, List, length, get_or};
 ghost use Rattle.machine.specs.Machine.{mach};
 ghost use Rattle.walker.specs.Walk.{meet_of, next_of, one_of, two_of, all_of, children_of, preds_of, quant_of, pred_quant_of, ascribed_of, body_of, pred_body_of, expr_of, explicit_of, owned_of, pred_of};

@@ -1,5 +1,7 @@
 // The type at a reference, written into a page as a record. The units are those of the test for unknowns: a budget with which a reference was
 // found solved writes it too, and so does every larger one.
+#![tactic(auto)]
+
 ghost use Rattle.std.specs.Prelude.{◌≡◌};
 ghost use Rattle.unification.specs.Put.{put};
 ghost use Rattle.write.specs.Answers.{laid};
@@ -9,7 +11,7 @@ use unifier::Resolved;
 
 // The place after the record, and the budget left; no room for it (8); the budget is spent; an unknown or a broken node (2).
 // Where it is not `At`, bytes of the page from the given place on may have been written.
-#[derive(Drop)]
+#[derive(Clone, Copy)]
 pub enum Wrote {
     At(usize, u64),
     Full,

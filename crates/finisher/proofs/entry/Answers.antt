@@ -1,0 +1,10 @@
+use mathlib.Core.Path.{◌≡◌, refl, sym, ap, ◌∙◌}
+use native.Mathlib.Omega.{arith}
+use Rattle.forms.specs.Forms.{test, then, step, yes_if, no_if, yes_eq, no_eq, yes_lt, no_lt, yes_le, no_le}
+use Rattle.finisher.specs.Finisher.{entry_of}
+use borrow.Author.Rules.{rules}
+use Rattle.finisher.proofs.entry.Goals as goal
+
+pub returns : goal.returns
+unfolding entry_of
+returns c = step _ _ _ _ c.read-x.ensures (step _ _ _ _ c.read-t.ensures (step _ _ _ _ (c.emit-a.ensures _ _) (step _ _ _ _ (c.emit_two-b.ensures _ _) c.spell.ensures)))

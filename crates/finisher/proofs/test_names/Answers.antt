@@ -1,0 +1,26 @@
+use mathlib.Core.Path.{◌≡◌, refl, sym, ap, ◌∙◌}
+use native.Mathlib.Omega.{arith}
+use Rattle.forms.specs.Forms.{test, then, step, yes_if, no_if, yes_eq, no_eq, yes_lt, no_lt, yes_le, no_le}
+use Prim.Native.Nat.{ℕ, ◌-◌}
+use lib.ListN.{length}
+use Rattle.machine.specs.Machine.{mach}
+use Rattle.finisher.specs.Finisher.{each_of, name_of, test_names_of}
+use Rattle.finisher.proofs.Laws.{each_none, each_more, each_start}
+use borrow.Author.Rules.{rules}
+use Rattle.finisher.proofs.test_names.Goals as goal
+
+pub loop-j-init : goal.loop-j-init
+loop-j-init c = (refl, refl)
+
+pub loop-j-smaller : goal.loop-j-smaller
+loop-j-smaller c = omega (arith, c.loop-j-test.true)
+
+pub loop-j-preserved : goal.loop-j-preserved
+loop-j-preserved c = (each_more name_of _ _ _ _ _ c.loop-j-test.true c.name-v.ensures c.loop-j.invariant.0, omega (arith, c.name-v.auto.output, c.loop-j.invariant.1))
+
+pub shape_of-output : goal.shape_of-output
+shape_of-output c = omega (arith, c.loop-j.invariant.1)
+
+pub returns : goal.returns
+unfolding test_names_of
+returns c = sym (each_none name_of _ _ _ c.loop-j-test.false) ∙ c.loop-j.invariant.0 ∙ each_start name_of _ _

@@ -1,0 +1,16 @@
+use mathlib.Core.Path.{◌≡◌, refl, sym, ap, ◌∙◌}
+use native.Mathlib.Omega.{arith}
+use Rattle.forms.specs.Forms.{test, then, step, yes_if, no_if, yes_eq, no_eq, yes_lt, no_lt, yes_le, no_le}
+use Prim.Native.Nat.{ℕ, ◌-◌}
+use lib.ListN.{length}
+use Rattle.machine.specs.Machine.{mach}
+use Rattle.finisher.specs.Finisher.{each_of, name_of, test_names_of}
+use Rattle.finisher.proofs.Laws.{each_none, each_more, each_start}
+use borrow.Author.Rules.{rules}
+use Rattle.finisher.proofs.test_names.Given as goal
+
+abbrev pub invariant-loop-j : goal.invariant-loop-j
+invariant-loop-j l = (each_of name_of (l.st.met - l.j) l.j (mach l.size l.v l.work l.output) ≡ each_of name_of (l.st.met - l.initial.j) l.initial.j (mach l.size l.initial.v l.work l.initial.output)) × (length l.output ≡ length l.initial.output)
+
+abbrev pub decreases-loop-j : goal.decreases-loop-j
+decreases-loop-j l = l.st.met - l.j

@@ -1,0 +1,16 @@
+use Rattle.types.specs.Record.{reach}
+use Rattle.formula.specs.Steps.{decls-none, decls-next}
+use Rattle.formula.specs.Parse.{decls_at}
+use Rattle.formula.specs.Reader.{after}
+use Rattle.formula.specs.declared.Out.{Out}
+use borrow.Author.Rules.{rules}
+use Prim.Native.Nat.{ℕ, ◌≤◌}
+use native.Mathlib.Omega.{arith}
+use mathlib.Core.Path.{◌≡◌, refl, sym, ap, ◌∙◌}
+use Rattle.formula.proofs.read_decls.Given as goal
+
+abbrev pub invariant-loop-i : goal.invariant-loop-i
+invariant-loop-i l = (after l.cur (decls_at l.names (reach l.s) l.left l.i) ≡ after l.initial.cur (decls_at l.names (reach l.s) l.left l.initial.i)) × (l.i ≤ l.initial.i)
+
+abbrev pub decreases-loop-i : goal.decreases-loop-i
+decreases-loop-i l = l.i

@@ -1,0 +1,16 @@
+use Rattle.formula.specs.EnvSteps.{Going, going_start, turn-next, answer-good, answer-out, answer-wrong}
+use Rattle.formula.specs.EnvParse.{entries_from}
+use borrow.Author.Tests.{leb-true, leb-false}
+use borrow.Author.Rules.{rules}
+use mathlib.Core.List.{[]}
+use lib.ListN.{length}
+use Prim.Native.Nat.{ℕ, ◌≤◌, ◌<◌}
+use native.Mathlib.Omega.{arith}
+use mathlib.Core.Path.{◌≡◌, refl, sym, ap, ◌∙◌}
+use Rattle.formula.proofs.read_entries.Given as goal
+
+abbrev pub invariant-loop-turns : goal.invariant-loop-turns
+invariant-loop-turns l = Going l.names l.s (entries_from (length l.s) l.names l.s [] 0) l.types l.at l.turns × (l.turns ≤ l.initial.turns)
+
+abbrev pub decreases-loop-turns : goal.decreases-loop-turns
+decreases-loop-turns l = l.turns

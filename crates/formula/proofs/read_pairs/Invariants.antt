@@ -1,0 +1,15 @@
+use Rattle.types.specs.Record.{reach}
+use Rattle.formula.specs.Steps.{pairs-none, pairs_next}
+use Rattle.formula.specs.Parse.{pairs_at}
+use Rattle.formula.specs.Reader.{after}
+use borrow.Author.Rules.{rules}
+use Prim.Native.Nat.{ℕ, ◌≤◌}
+use native.Mathlib.Omega.{arith}
+use mathlib.Core.Path.{◌≡◌, refl, sym, ap, ◌∙◌}
+use Rattle.formula.proofs.read_pairs.Given as goal
+
+abbrev pub invariant-loop-i : goal.invariant-loop-i
+invariant-loop-i l = (after l.cur (pairs_at l.left l.names (reach l.s) l.i) ≡ after l.initial.cur (pairs_at l.left l.names (reach l.s) l.initial.i)) × (l.i ≤ l.initial.i)
+
+abbrev pub decreases-loop-i : goal.decreases-loop-i
+decreases-loop-i l = l.i

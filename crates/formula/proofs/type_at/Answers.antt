@@ -1,0 +1,6 @@
+use mathlib.Core.Path.{◌≡◌, refl, sym, ap, ◌∙◌}
+use borrow.Author.Rules.{rules}
+use Rattle.formula.proofs.type_at.Goals as goal
+
+pub returns : goal.returns
+returns c = c.type_end.ensures

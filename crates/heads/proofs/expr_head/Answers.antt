@@ -1,0 +1,13 @@
+use mathlib.Core.Path.{◌≡◌, refl, sym, ap, ◌∙◌}
+use native.Mathlib.Omega.{arith}
+use Rattle.heads.specs.Heads.{expr_head, on_byte}
+use borrow.Author.Rules.{rules}
+use Rattle.heads.proofs.expr_head.Goals as goal
+
+pub returns-in-Missing : goal.returns-in-Missing
+unfolding expr_head on_byte
+returns-in-Missing c = rw ((sym c.byte_at.ensures ∙ c.in-Missing.is))
+
+pub returns-in-Of : goal.returns-in-Of
+unfolding expr_head on_byte
+returns-in-Of c = rw ((sym c.byte_at.ensures ∙ c.in-Of.is)) c.expr_body.ensures

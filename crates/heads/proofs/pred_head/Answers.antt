@@ -1,0 +1,13 @@
+use mathlib.Core.Path.{◌≡◌, refl, sym, ap, ◌∙◌}
+use native.Mathlib.Omega.{arith}
+use Rattle.heads.specs.Heads.{pred_head, on_byte}
+use borrow.Author.Rules.{rules}
+use Rattle.heads.proofs.pred_head.Goals as goal
+
+pub returns-in-Missing : goal.returns-in-Missing
+unfolding pred_head on_byte
+returns-in-Missing c = rw ((sym c.byte_at.ensures ∙ c.in-Missing.is))
+
+pub returns-in-Of : goal.returns-in-Of
+unfolding pred_head on_byte
+returns-in-Of c = rw ((sym c.byte_at.ensures ∙ c.in-Of.is)) c.pred_body.ensures

@@ -1,0 +1,20 @@
+use mathlib.Core.Path.{refl, sym, ◌∙◌}
+use native.Mathlib.Omega.{arith}
+use Rattle.forms.specs.Forms.{step}
+use Rattle.machine.specs.Types.{declaration_by, declaration_of}
+use borrow.Author.Rules.{rules}
+use Rattle.machine.proofs.declaration.Goals as goal
+
+pub returns-in-Wrong : goal.returns-in-Wrong
+unfolding declaration_of declaration_by
+returns-in-Wrong c = step _ _ _ _ (sym c.in-Wrong.is ∙ c.decl_head.ensures) (step _ _ _ _ c.stopped.ensures refl)
+
+pub shape_of-work : goal.shape_of-work
+shape_of-work c = omega (arith, c.declared.auto.work, c.declared.auto.output)
+
+pub shape_of-output : goal.shape_of-output
+shape_of-output c = omega (arith, c.declared.auto.work, c.declared.auto.output)
+
+pub returns-in-Is : goal.returns-in-Is
+unfolding declaration_of
+returns-in-Is c = step _ _ _ _ (sym c.in-Is.is ∙ c.decl_head.ensures) c.declared.ensures

@@ -1,0 +1,28 @@
+use mathlib.Core.Path.{◌≡◌}
+use lib.ListN.{length}
+use Rattle.machine.specs.Machine.{mach}
+use Rattle.machine.specs.Types.{declaration_of, times_of}
+use Rattle.machine.proofs.Laws.{by-times, times_none}
+use mathlib.Core.Path.{refl, sym, ap, ◌∙◌}
+use native.Mathlib.Omega.{arith}
+use Rattle.forms.specs.Forms.{test, then, step, yes_if, no_if, yes_eq, no_eq, yes_lt, no_lt, yes_le, no_le}
+use borrow.Author.Rules.{rules}
+use Rattle.machine.proofs.declare.Goals as goal
+
+pub loop-i-init : goal.loop-i-init
+loop-i-init c = (refl, refl, refl)
+
+pub loop-i-smaller : goal.loop-i-smaller
+loop-i-smaller c = omega (arith, c.loop-i-test.true)
+
+pub loop-i-preserved : goal.loop-i-preserved
+loop-i-preserved c = (by-times _ _ _ _ _ (λ e. omega (arith, c.loop-i-test.true)) c.declaration-v.ensures c.loop-i.invariant.0, omega (arith, c.declaration-v.auto.work, c.loop-i.invariant.1), omega (arith, c.declaration-v.auto.output, c.loop-i.invariant.2))
+
+pub shape_of-work : goal.shape_of-work
+shape_of-work c = omega (arith, c.loop-i.invariant.1, c.loop-i.invariant.2)
+
+pub shape_of-output : goal.shape_of-output
+shape_of-output c = omega (arith, c.loop-i.invariant.1, c.loop-i.invariant.2)
+
+pub returns : goal.returns
+returns c = sym (times_none _ _ _ (omega (arith, c.loop-i-test.false))) ∙ c.loop-i.invariant.0

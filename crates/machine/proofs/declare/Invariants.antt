@@ -1,0 +1,16 @@
+use mathlib.Core.Path.{◌≡◌}
+use lib.ListN.{length}
+use Rattle.machine.specs.Machine.{mach}
+use Rattle.machine.specs.Types.{declaration_of, times_of}
+use Rattle.machine.proofs.Laws.{by-times, times_none}
+use mathlib.Core.Path.{refl, sym, ap, ◌∙◌}
+use native.Mathlib.Omega.{arith}
+use Rattle.forms.specs.Forms.{test, then, step, yes_if, no_if, yes_eq, no_eq, yes_lt, no_lt, yes_le, no_le}
+use borrow.Author.Rules.{rules}
+use Rattle.machine.proofs.declare.Given as goal
+
+abbrev pub invariant-loop-i : goal.invariant-loop-i
+invariant-loop-i l = (times_of (declaration_of l.s l.environment) l.i (mach l.size l.v l.work l.output) ≡ times_of (declaration_of l.s l.environment) l.initial.i (mach l.size l.initial.v l.initial.work l.initial.output)) × (length l.work ≡ length l.initial.work) × (length l.output ≡ length l.initial.output)
+
+abbrev pub decreases-loop-i : goal.decreases-loop-i
+decreases-loop-i l = l.i

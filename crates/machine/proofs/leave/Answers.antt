@@ -1,0 +1,14 @@
+use mathlib.Core.Path.{refl, sym, ap, ◌∙◌}
+use native.Mathlib.Omega.{arith}
+use Rattle.forms.specs.Forms.{test, then, step, yes_if, no_if, yes_eq, no_eq, yes_lt, no_lt, yes_le, no_le}
+use Rattle.machine.specs.Machine.{leave_of}
+use borrow.Author.Rules.{rules}
+use Rattle.machine.proofs.leave.Goals as goal
+
+pub returns-then-st-ne0 : goal.returns-then-st-ne0
+unfolding leave_of
+returns-then-st-ne0 c = λ out. no_eq _ _ _ _ _ c.if-st-ne0.true (refl)
+
+pub returns : goal.returns
+unfolding leave_of
+returns c = λ out. yes_eq _ _ _ _ _ c.if-st-ne0.false (step _ _ _ _ (c.put.ensures _ _) (step _ _ _ _ (c.put-2.ensures _ _) (step _ _ _ _ c.arrived.ensures (refl))))

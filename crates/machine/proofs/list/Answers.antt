@@ -1,0 +1,10 @@
+use mathlib.Core.Path.{refl, sym, ap, ◌∙◌}
+use native.Mathlib.Omega.{arith}
+use Rattle.forms.specs.Forms.{test, then, step, yes_if, no_if, yes_eq, no_eq, yes_lt, no_lt, yes_le, no_le}
+use Rattle.machine.specs.Machine.{list_of}
+use borrow.Author.Rules.{rules}
+use Rattle.machine.proofs.list.Goals as goal
+
+pub returns : goal.returns
+unfolding list_of
+returns c = λ size w. step _ _ _ _ (c.emit-a.ensures _ _) (step _ _ _ _ (c.emit-b.ensures _ _) (step _ _ _ _ (c.emit_four-c.ensures _ _) (c.emit_two.ensures _ _)))

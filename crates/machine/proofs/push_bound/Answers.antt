@@ -1,0 +1,18 @@
+use mathlib.Core.Path.{refl, sym, ap, ◌∙◌}
+use native.Mathlib.Omega.{arith}
+use Rattle.forms.specs.Forms.{test, then, step, yes_if, no_if, yes_eq, no_eq, yes_lt, no_lt, yes_le, no_le}
+use Rattle.machine.specs.Machine.{push_bound_of}
+use borrow.Author.Rules.{rules}
+use Rattle.machine.proofs.push_bound.Goals as goal
+
+pub returns-then-st-ne0 : goal.returns-then-st-ne0
+unfolding push_bound_of
+returns-then-st-ne0 c = λ out. no_eq _ _ _ _ _ c.if-st-ne0.true (refl)
+
+pub returns-then-n-lt-MAX_OPENED : goal.returns-then-n-lt-MAX_OPENED
+unfolding push_bound_of
+returns-then-n-lt-MAX_OPENED c = λ out. yes_eq _ _ _ _ _ c.if-st-ne0.false (yes_lt _ _ _ _ _ c.if-n-lt-MAX_OPENED.true (step _ _ _ _ (c.put.ensures _ _) (step _ _ _ _ c.bounded.ensures (refl))))
+
+pub returns : goal.returns
+unfolding push_bound_of
+returns c = λ out. yes_eq _ _ _ _ _ c.if-st-ne0.false (no_lt _ _ _ _ _ c.if-n-lt-MAX_OPENED.false (step _ _ _ _ c.stopped.ensures (refl)))

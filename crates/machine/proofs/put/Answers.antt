@@ -1,0 +1,17 @@
+use mathlib.Core.Path.{◌≡◌, refl, sym, ap, ◌∙◌}
+use native.Mathlib.Omega.{arith}
+use Rattle.forms.specs.Forms.{test, then, step, yes_if, no_if, yes_eq, no_eq, yes_lt, no_lt, yes_le, no_le}
+use Rattle.machine.specs.Machine.{put_of}
+use Prim.Native.Nat.{ℕ, ◌+◌}
+use lib.ListN.{get_or, set, get_or-eq_default}
+use lib.Seq.{get_or-drop}
+use Rattle.machine.specs.Machine.{mach, cell}
+use Rattle.machine.proofs.Laws.{put-inside, put-outside}
+use borrow.Author.Rules.{rules}
+use Rattle.machine.proofs.put.Goals as goal
+
+pub returns-then-i-work : goal.returns-then-i-work
+returns-then-i-work c = λ st out. ap (λ (i : ℕ). mach c.args.size st (set c.args.work.now (c.args.size + i) c.args.value) out) c.cell.ensures.value ∙ put-inside c.args.size (cell c.args.area c.args.stride c.args.j c.args.k) _ st c.args.work.now out
+
+pub returns-else-i-work : goal.returns-else-i-work
+returns-else-i-work c = λ st out. put-outside c.args.size (cell c.args.area c.args.stride c.args.j c.args.k) _ st c.args.work.now out (omega (arith, c.if-i-work.false, c.cell.ensures.value))

@@ -1,0 +1,13 @@
+use mathlib.Core.Path.{◌≡◌, refl, sym, ap, ◌∙◌}
+use native.Mathlib.Omega.{arith}
+use Rattle.forms.specs.Forms.{test, then, step, yes_if, no_if, yes_eq, no_eq, yes_lt, no_lt, yes_le, no_le}
+use Rattle.machine.proofs.Laws.{lent, lent-unify}
+use lib.Seq.{length-take-le}
+use borrow.Author.Rules.{rules}
+use Rattle.machine.proofs.unified.Goals as goal
+
+pub slice_bounds-unify-end-2 : goal.slice_bounds-unify-end-2
+slice_bounds-unify-end-2 c = sym (length-take-le _ _ c.within-n.ensures.upper_bound)
+
+pub returns : goal.returns
+returns c = record { work_after = (lent-unify c.unify.result c.args.size c.within-n.result _ _ _ _ c.args.work.now c.unify.new.words (lent c.args.size c.within-n.result c.args.work.now c.unify.new.words c.within-n.ensures.value c.unify.auto.words) c.unify.ensures).0; work_unchanged = (lent-unify c.unify.result c.args.size c.within-n.result _ _ _ _ c.args.work.now c.unify.new.words (lent c.args.size c.within-n.result c.args.work.now c.unify.new.words c.within-n.ensures.value c.unify.auto.words) c.unify.ensures).1 }

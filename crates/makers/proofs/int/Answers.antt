@@ -1,0 +1,7 @@
+use Rattle.unification.specs.Make.{build}
+use borrow.Author.Rules.{rules}
+use Rattle.makers.proofs.int.Goals as goal
+
+pub returns : goal.returns
+unfolding build
+returns c = c.push.ensures

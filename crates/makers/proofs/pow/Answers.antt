@@ -1,0 +1,14 @@
+use mathlib.Core.Path.{sym, ◌∙◌}
+use borrow.Author.Tests.{lt-ltb, le-ltb}
+use Rattle.unification.specs.Arena.{choose}
+use Rattle.unification.specs.Make.{build, build-power}
+use Rattle.makers.specs.Answers.{made}
+use borrow.Author.Rules.{rules}
+use Rattle.makers.proofs.pow.Goals as goal
+
+pub returns-then-base-count : goal.returns-then-base-count
+returns-then-base-count c = c.push.ensures ∙ sym (build-power _ _ _ c.if-base-count.true)
+
+pub returns : goal.returns
+unfolding build choose
+returns c = simp (le-ltb _ _ c.if-base-count.false)

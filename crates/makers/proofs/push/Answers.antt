@@ -1,0 +1,27 @@
+use mathlib.Core.Path.{sym}
+use lib.ListN.{length-set}
+use native.Mathlib.Omega.{arith}
+use Rattle.unification.specs.Good.{push_at}
+use Rattle.unification.specs.Make.{make-done, make_full, make-past, make-last}
+use Rattle.makers.specs.Answers.{made}
+use borrow.Author.Rules.{rules}
+use Rattle.makers.proofs.push.Goals as goal
+
+pub returns-then-words-at : goal.returns-then-words-at
+returns-then-words-at c = sym (make-past _ _ _ _ _ c.if-words-at.true)
+
+pub returns-then-words-at-lt3 : goal.returns-then-words-at-lt3
+returns-then-words-at-lt3 c = sym (make_full _ _ _ _ _ c.if-words-at.false (omega (arith, c.if-words-at-lt3.true, c.if-words-at.false)))
+
+pub returns-then-count-eq4294967295 : goal.returns-then-count-eq4294967295
+returns-then-count-eq4294967295 c = sym (make-last _ _ _ _ _ (omega (arith, c.if-words-at-lt3.false, c.if-words-at.false)) (omega (arith, c.if-count-eq4294967295.true)))
+
+pub bounds-words-at-2 : goal.bounds-words-at-2
+bounds-words-at-2 c = simp length-set (omega arith)
+
+pub bounds-words-at-3 : goal.bounds-words-at-3
+bounds-words-at-3 c = simp length-set (omega arith)
+
+pub returns : goal.returns
+unfolding push_at
+returns c = sym (make-done _ _ _ _ _ (omega (arith, c.if-words-at-lt3.false, c.if-words-at.false)) (omega (arith, c.if-count-eq4294967295.false)))

@@ -1,0 +1,13 @@
+use borrow.Author.Rules.{rules}
+use native.Mathlib.Omega.{arith}
+use mathlib.Core.Path.{◌≡◌, refl, sym, ◌∙◌, ap}
+use Prim.Native.Nat.{◌-◌, ◌≤◌}
+use lib.ListN.{length, length-set}
+use Rattle.memory.specs.Memory.{zeroed, zero_more, zero-end, zero-cleared}
+use Rattle.memory.proofs.clear_words.Given as goal
+
+abbrev pub invariant-loop-i : goal.invariant-loop-i
+invariant-loop-i l = (zeroed l.from (length l.initial.words - l.from) l.initial.words ≡ zeroed l.i (length l.initial.words - l.i) l.words) × (length l.words ≡ length l.initial.words)
+
+abbrev pub decreases-loop-i : goal.decreases-loop-i
+decreases-loop-i l = length l.initial.words - l.i

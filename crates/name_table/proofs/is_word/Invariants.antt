@@ -1,0 +1,14 @@
+use borrow.Author.Rules.{rules}
+use native.Mathlib.Omega.{arith}
+use Rattle.name_table.specs.Steps.{is-word-none, is-word-bad, is-word-start, is-word-stop, is-word-on, is-word-end}
+use mathlib.Core.Path.{◌≡◌, sym, ◌∙◌}
+use Prim.Native.Nat.{◌≤◌, ◌-◌}
+use lib.ListN.{length, drop}
+use Rattle.name_table.specs.Words.{is_word, all_word}
+use Rattle.name_table.proofs.is_word.Given as goal
+
+abbrev pub invariant-loop-i : goal.invariant-loop-i
+invariant-loop-i l = is_word l.w ≡ all_word (drop l.i l.w)
+
+abbrev pub decreases-loop-i : goal.decreases-loop-i
+decreases-loop-i l = length l.w - l.i

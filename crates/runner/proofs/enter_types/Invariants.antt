@@ -1,0 +1,17 @@
+use borrow.Author.Rules.{rules}
+use native.Mathlib.Omega.{arith}
+use mathlib.Core.Path.{◌≡◌, refl, sym, ap, ◌∙◌}
+use mathlib.Core.List.{List}
+use Prim.Native.Nat.{ℕ, ◌-◌, ◌≤◌, ◌+◌}
+use lib.ListN.{length}
+use Rattle.machine.specs.declared.State.{State}
+use Rattle.machine.specs.Machine.{Mach, mach}
+use Rattle.runner.specs.Begin.{entered_from}
+use Rattle.runner.proofs.Laws.{entered_more, entered_end}
+use Rattle.runner.proofs.enter_types.Given as goal
+
+abbrev pub invariant-loop-x : goal.invariant-loop-x
+invariant-loop-x l = ((st : State) (out : List ℕ) → entered_from l.types 0 256 (mach l.size st l.initial.work out) ≡ entered_from l.types l.x (256 - l.x) (mach l.size st l.work out)) × (length l.work ≡ length l.initial.work)
+
+abbrev pub decreases-loop-x : goal.decreases-loop-x
+decreases-loop-x l = 256 - l.x

@@ -1,0 +1,12 @@
+use borrow.Author.Rules.{rules}
+use native.Mathlib.Omega.{arith}
+use Rattle.type_grammar.specs.Steps.{WordSo, word_begin, word_over, word-stop, word_on}
+use Prim.Native.Nat.{◌-◌}
+use lib.ListN.{length}
+use Rattle.type_grammar.proofs.word_end.Given as goal
+
+abbrev pub invariant-loop-e : goal.invariant-loop-e
+invariant-loop-e l = WordSo l.text l.at l.e
+
+abbrev pub decreases-loop-e : goal.decreases-loop-e
+decreases-loop-e l = length l.text - l.e

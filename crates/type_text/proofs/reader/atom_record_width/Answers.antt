@@ -1,0 +1,19 @@
+-- `atom_record_width` is the length of the atom's record.
+use native.Mathlib.Omega.{arith}
+use mathlib.Core.Path.{sym}
+use Rattle.types.specs.Ty.{spell_atom}
+use Rattle.types.specs.Code.{atom_is}
+use borrow.Author.Rules.{rules}
+use Rattle.type_text.proofs.reader.atom_record_width.Goals as goal
+
+pub returns-in-Bool : goal.returns-in-Bool
+unfolding spell_atom atom_is
+returns-in-Bool c = sym (rw c.in-Bool.is)
+
+pub returns-in-Integer : goal.returns-in-Integer
+unfolding spell_atom atom_is
+returns-in-Integer c = sym (rw c.in-Integer.is)
+
+pub returns-in-Given : goal.returns-in-Given
+unfolding spell_atom atom_is
+returns-in-Given c = sym (rw c.in-Given.is)

@@ -1,0 +1,14 @@
+use borrow.Author.Rules.{rules}
+use native.Mathlib.Omega.{arith}
+use Rattle.type_text.specs.Lay.{lead-start, lead-next, lead-end}
+use mathlib.Core.Path.{◌≡◌, refl}
+use mathlib.Core.List.{◌++◌}
+use Prim.Native.Nat.{◌≤◌, ◌-◌, ◌+◌}
+use lib.ListN.{length, take, drop, length-set}
+use Rattle.type_text.proofs.reader.lead.Given as goal
+
+abbrev pub invariant-loop-i : goal.invariant-loop-i
+invariant-loop-i l = (l.page ≡ take (l.i + 1) l.initial.page ++ (drop l.i (take l.n l.initial.page) ++ drop (l.n + 1) l.initial.page)) × (l.i ≤ l.n) × (length l.page ≡ length l.initial.page)
+
+abbrev pub decreases-loop-i : goal.decreases-loop-i
+decreases-loop-i l = l.i

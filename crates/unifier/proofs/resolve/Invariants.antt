@@ -1,0 +1,13 @@
+use mathlib.Core.Path.{◌≡◌, refl, sym, ◌∙◌, ap, subst}
+use native.Mathlib.Omega.{arith}
+use borrow.Author.Rules.{rules}
+use Rattle.unification.specs.Tasks.{arrive}
+use Rattle.unification.specs.Code.{arrive-here, arrive_broken, arrive-short, arrive-next}
+use Rattle.unifier.specs.Answers.{found_of, Settled, arrived}
+use Rattle.unifier.proofs.resolve.Given as goal
+
+abbrev pub invariant-loop-node : goal.invariant-loop-node
+invariant-loop-node l = arrive l.words l.count l.at.0 l.left ≡ arrive l.words l.count l.initial.at.0 l.budget
+
+abbrev pub decreases-loop-node : goal.decreases-loop-node
+decreases-loop-node l = l.left

@@ -1,0 +1,6 @@
+use mathlib.Core.Path.{◌∙◌}
+use borrow.Author.Rules.{rules}
+use Rattle.unifier.proofs.solved.Goals as goal
+
+pub returns : goal.returns
+returns c = c.tell.ensures ∙ c.test-number.ensures

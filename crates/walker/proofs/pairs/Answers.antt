@@ -1,0 +1,34 @@
+use Prim.Native.Nat.{ℕ, ◌+◌, ◌-◌}
+use native.Mathlib.Omega.{arith}
+use mathlib.Core.Path.{◌≡◌, refl, sym, ◌∙◌}
+use lib.ListN.{length}
+use borrow.Author.Rules.{rules}
+use Rattle.forms.specs.Forms.{step}
+use Rattle.machine.specs.Machine.{mach}
+use Rattle.machine.specs.Types.{times_of}
+use Rattle.walker.specs.Walk.{expr_of}
+use Rattle.walker.specs.Root.{pair_by, product_by, share_by, shares_from}
+use Rattle.walker.proofs.Laws.{by-times, times_none, shares-more, shares-none}
+use Rattle.walker.proofs.pairs.Goals as goal
+
+pub loop-i-init : goal.loop-i-init
+loop-i-init c = (refl, refl, refl)
+
+pub overflow_sub-i : goal.overflow_sub-i
+overflow_sub-i c = omega (arith, c.loop-i-test.true)
+
+pub loop-i-smaller : goal.loop-i-smaller
+loop-i-smaller c = omega (arith, c.loop-i-test.true)
+
+pub loop-i-preserved : goal.loop-i-preserved
+unfolding pair_by
+loop-i-preserved c = (by-times _ _ _ _ _ _ c.loop-i.invariant.0 (omega (arith, c.loop-i-test.true)) (step _ _ _ _ c.expr-a.ensures (step _ _ _ _ c.expr-b.ensures c.expect-v.ensures)), omega (arith, c.expr-a.auto.work, c.expr-b.auto.work, c.expect-v.auto.work, c.loop-i.invariant.1), omega (arith, c.expr-a.auto.output, c.expr-b.auto.output, c.expect-v.auto.output, c.loop-i.invariant.2))
+
+pub shape_of-work : goal.shape_of-work
+shape_of-work c = omega (arith, c.loop-i.invariant.1)
+
+pub shape_of-output : goal.shape_of-output
+shape_of-output c = omega (arith, c.loop-i.invariant.2)
+
+pub returns : goal.returns
+returns c = sym (times_none _ _ _ (omega (arith, c.loop-i-test.false))) ∙ c.loop-i.invariant.0

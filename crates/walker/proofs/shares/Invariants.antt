@@ -1,0 +1,16 @@
+use Prim.Native.Nat.{ℕ, ◌-◌}
+use native.Mathlib.Omega.{arith}
+use mathlib.Core.Path.{◌≡◌, refl, sym, ◌∙◌}
+use lib.ListN.{length}
+use borrow.Author.Rules.{rules}
+use Rattle.forms.specs.Forms.{step}
+use Rattle.machine.specs.Machine.{mach}
+use Rattle.walker.specs.Root.{share_by, shares_from, shares_of}
+use Rattle.walker.proofs.Laws.{shares-more, shares-none}
+use Rattle.walker.proofs.shares.Given as goal
+
+abbrev pub invariant-loop-i : goal.invariant-loop-i
+invariant-loop-i l = (shares_from l.first l.until l.place.0 (l.until - l.i) l.i (mach l.size l.v l.work l.output) ≡ shares_from l.first l.until l.place.0 (l.until - l.initial.i) l.initial.i (mach l.size l.initial.v l.initial.work l.initial.output)) × (length l.work ≡ length l.initial.work) × (length l.output ≡ length l.initial.output)
+
+abbrev pub decreases-loop-i : goal.decreases-loop-i
+decreases-loop-i l = l.until - l.i
