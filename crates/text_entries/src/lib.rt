@@ -1,5 +1,7 @@
 // The two text entries for a host in another language: numbers and byte slices only. The result is the answer's number; place and length are
 // always written, and the page is as `type_text` leaves it.
+#![tactic(auto)]
+
 ghost use Rattle.std.specs.Prelude.{◌≡◌};
 ghost use Rattle.type_text.specs.Answer.{number_of, place_of, length_of, read_answer, read_page, write_answer, write_page};
 
@@ -47,8 +49,7 @@ pub fn tell(a: Answer) -> Told
     }
 }
 
-#[unsafe(no_mangle)]
-pub extern "C" fn typecheck_read_text(
+pub fn typecheck_read_text(
     text: &[u8],
     table: &[u8],
     page: &mut [u8],
@@ -66,8 +67,7 @@ pub extern "C" fn typecheck_read_text(
     t.number
 }
 
-#[unsafe(no_mangle)]
-pub extern "C" fn typecheck_write_text(
+pub fn typecheck_write_text(
     bytes: &[u8],
     table: &[u8],
     page: &mut [u8],
