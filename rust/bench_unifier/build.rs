@@ -1,4 +1,4 @@
-//! Finds the archive of crate `unifier_trial` (`rt staticlib unifier_trial`) as `port` finds its own, and links it; without it the crate builds with
+//! Finds the archive of crate `unifier_trial` (`tools/archive unifier_trial`) as `port` finds its own, and links it; without it the crate builds with
 //! `cfg(no_archive)` and says that nothing was measured.
 
 use std::env;

@@ -1,16 +1,18 @@
 // Prints the auditor's cases, a line each: what is asked, then the answer's number, place, length, steps and bytes. The cases are asked through the
 // entries that the workbench calls.
+#![tactic(auto)]
+
 ghost use Rattle.std.specs.Prelude.{◌≤◌};
 
-use libc::STDOUT_FILENO;
+use std::io;
 
-fn say(text: &[u8]) {
-    io::write_all(STDOUT_FILENO, text);
+fn say(rt: &impl Print, text: &[u8]) -> io::Result<()> {
+    rt.write_all(text)
 }
 
-fn say_number(label: &[u8], n: u64) {
-    say(label);
-    io::print_decimal(STDOUT_FILENO, n);
+fn say_number(rt: &impl Print, label: &[u8], n: u64) -> io::Result<()> {
+    say(rt, label)?;
+    rt.print(n)
 }
 
 fn digit(d: u8) -> u8 {
@@ -19,21 +21,29 @@ fn digit(d: u8) -> u8 {
 }
 
 // The first n bytes, each after a space.
-fn say_bytes(bytes: &[u8], n: usize) {
+fn say_bytes(rt: &impl Print, bytes: &[u8], n: usize) -> io::Result<()> {
     if n > 0 {
-        say(b":");
+        say(rt, b":")?;
     }
     let mut i = 0;
     while i < n && i < bytes.len() {
         let b = bytes[i];
-        say(&[b' ', digit(b / 16), digit(b)]);
+        say(rt, &[b' ', digit(b / 16), digit(b)])?;
         i += 1;
     }
+    Ok(())
 }
 
 // ---- inference
 
-fn infer(case: &[u8], formula: &[u8], environment: &[u8], capacity: u32, budget: u64) {
+fn infer(
+    rt: &impl Print,
+    case: &[u8],
+    formula: &[u8],
+    environment: &[u8],
+    capacity: u32,
+    budget: u64,
+) -> io::Result<()> {
     let mut output = [0u8; 64];
     let mut work = [0u32; 10240];
     let mut place = 0u64;
@@ -51,89 +61,94 @@ fn infer(case: &[u8], formula: &[u8], environment: &[u8], capacity: u32, budget:
         &mut length,
         &mut steps,
     );
-    say(case);
-    say_number(b": number ", number as u64);
-    say_number(b", place ", place);
-    say_number(b", length ", length);
-    say_number(b", steps ", steps);
-    say_bytes(&output, length as usize);
-    say(b"\n");
+    say(rt, case)?;
+    say_number(rt, b": number ", number as u64)?;
+    say_number(rt, b", place ", place)?;
+    say_number(rt, b", length ", length)?;
+    say_number(rt, b", steps ", steps)?;
+    say_bytes(rt, &output, length as usize)?;
+    say(rt, b"\n")
 }
 
-fn infer_amply(case: &[u8], formula: &[u8], environment: &[u8]) {
-    infer(case, formula, environment, 2048, 1000000);
+fn infer_amply(rt: &impl Print, case: &[u8], formula: &[u8], environment: &[u8]) -> io::Result<()> {
+    infer(rt, case, formula, environment, 2048, 1000000)
 }
 
-fn membership() {
+fn membership(rt: &impl Print) -> io::Result<()> {
     let formula = b"\x22\x06\x01\x00\x00\x04\x00";
-    infer_amply(b"1 membership", formula, b"");
-    infer(b"2 capacity 4", formula, b"", 4, 1000000);
-    infer(b"2 capacity 3", formula, b"", 3, 1000000);
-    infer(b"2 budget 11", formula, b"", 2048, 11);
+    infer_amply(rt, b"1 membership", formula, b"")?;
+    infer(rt, b"2 capacity 4", formula, b"", 4, 1000000)?;
+    infer(rt, b"2 capacity 3", formula, b"", 3, 1000000)?;
+    infer(rt, b"2 budget 11", formula, b"", 2048, 11)
 }
 
-fn problems() {
+fn problems(rt: &impl Print) -> io::Result<()> {
     infer_amply(
+        rt,
         b"3 one untyped name",
         b"\x22\x00\x01\x00\x00\x01\x00\x00",
         b"",
-    );
+    )?;
     infer_amply(
+        rt,
         b"4 two untyped expressions",
         b"\x22\x00\x04\x08\x04\x08",
         b"",
-    );
+    )?;
     infer_amply(
+        rt,
         b"5 a name in itself",
         b"\x22\x06\x01\x00\x00\x01\x00\x00",
         b"",
-    );
+    )?;
     infer_amply(
+        rt,
         b"6 a pair whose left half is bound",
         b"\x22\x00\x07\x00\x01\x00\x00\x04\x04\x07\x00\x03\x03",
         b"",
-    );
+    )
 }
 
-fn spelled() {
+fn spelled(rt: &impl Print) -> io::Result<()> {
     let formula = b"\x26\x01\x12\x43\x42\x00\x00\x20";
     infer_amply(
+        rt,
         b"7 a spelled name that is held",
         formula,
         b"\x50\x00\x00\x41",
-    );
-    infer_amply(b"7 a spelled name that is not", formula, b"");
+    )?;
+    infer_amply(rt, b"7 a spelled name that is not", formula, b"")
 }
 
-fn small() {
-    infer_amply(b"8 a dangling index", b"\x02\x00\x00", b"");
-    infer_amply(b"9 a literal", b"\x20", b"");
-    infer_amply(b"9 nothing", b"", b"");
-    infer_amply(b"10 an extension of nothing", b"\x05\x00\x00", b"");
+fn small(rt: &impl Print) -> io::Result<()> {
+    infer_amply(rt, b"8 a dangling index", b"\x02\x00\x00", b"")?;
+    infer_amply(rt, b"9 a literal", b"\x20", b"")?;
+    infer_amply(rt, b"9 nothing", b"", b"")?;
+    infer_amply(rt, b"10 an extension of nothing", b"\x05\x00\x00", b"")
 }
 
-fn nested() {
+fn nested(rt: &impl Print) -> io::Result<()> {
     let mut inside = [0x25u8; 65];
     inside[64] = 0x20;
-    infer_amply(b"11 64 negations", &inside, b"");
+    infer_amply(rt, b"11 64 negations", &inside, b"")?;
     let mut beyond = [0x25u8; 66];
     beyond[65] = 0x20;
-    infer_amply(b"11 65 negations", &beyond, b"");
+    infer_amply(rt, b"11 65 negations", &beyond, b"")
 }
 
 // ---- type text
 
-fn read(case: &[u8], text: &[u8]) {
+fn read(rt: &impl Print, case: &[u8], text: &[u8]) -> io::Result<()> {
     let mut page = [0u8; 64];
     let mut place = 0u64;
     let mut length = 0u64;
     let number = host::typecheck_read_text(text, b"", &mut page, &mut place, &mut length);
-    say(case);
-    say_number(b": number ", number as u64);
-    say_number(b", place ", place);
-    say_number(b", length ", length);
-    say_bytes(&page, length as usize);
-    say(b"\n");
+    say(rt, case)?;
+    say_number(rt, b": number ", number as u64)?;
+    say_number(rt, b", place ", place)?;
+    say_number(rt, b", length ", length)?;
+    say_bytes(rt, &page, length as usize)?;
+    say(rt, b"\n")
 }
 
 // A byte at a position, if the text has it.
@@ -160,26 +175,26 @@ fn nest(text: &mut [u8], brackets: usize)
     put(text, i * 4 + 2, 0xA4);
 }
 
-fn powers() {
+fn powers(rt: &impl Print) -> io::Result<()> {
     let mut inside = [b')'; 163];
     nest(&mut inside, 32);
-    read(b"12 32 powers", &inside);
+    read(rt, b"12 32 powers", &inside)?;
     let mut beyond = [b')'; 168];
     nest(&mut beyond, 33);
-    read(b"12 33 powers", &beyond);
+    read(rt, b"12 33 powers", &beyond)
 }
 
-fn texts() {
-    read(b"12 (\xE2\x84\xA4)", b"(\xE2\x84\xA4)");
-    read(b"12 \xE2\x84\xA4\xC3\x97", b"\xE2\x84\xA4\xC3\x97");
+fn texts(rt: &impl Print) -> io::Result<()> {
+    read(rt, b"12 (\xE2\x84\xA4)", b"(\xE2\x84\xA4)")?;
+    read(rt, b"12 \xE2\x84\xA4\xC3\x97", b"\xE2\x84\xA4\xC3\x97")
 }
 
-fn main() {
-    membership();
-    problems();
-    spelled();
-    small();
-    nested();
-    texts();
-    powers();
+fn main(rt: HostRuntime) -> io::Result<()> {
+    membership(&rt)?;
+    problems(&rt)?;
+    spelled(&rt)?;
+    small(&rt)?;
+    nested(&rt)?;
+    texts(&rt)?;
+    powers(&rt)
 }

@@ -23,6 +23,7 @@ fn refusal(number: u32, place: u32) -> Told
     }
 }
 
+#[tactic(auto, unfolding(runner::specs::Answers::told))]
 pub fn tell(answer: Answer) -> Told
     ensures number_value { result.number ≡ (told answer).number }
     ensures place_value { result.place ≡ (told answer).place }

@@ -1,5 +1,7 @@
 // The four entries that the workbench calls, with numbers and slices. Each result is the answer's number; place, length and steps are always written.
 // After this file a reader knows what a call leaves behind: what `infer_of`, `read_answer` and `write_answer` say, and nothing else.
+#![tactic(auto)]
+
 mod answer;
 
 ghost use Rattle.std.specs.Prelude.{◌≡◌, length as List·length};
@@ -7,8 +9,7 @@ ghost use Rattle.inference.specs.Infer.{infer_of, output_after, work_after};
 ghost use Rattle.type_text.specs.Answer.{number_of, place_of, length_of, read_answer, read_page, write_answer, write_page};
 
 // Infers the types of a formula under an environment, at a capacity of the caller's, in work memory that is lent.
-#[unsafe(no_mangle)]
-pub extern "C" fn typecheck_infer_in(
+pub fn typecheck_infer_in(
     formula: &[u8],
     environment: &[u8],
     names: u32,
@@ -47,8 +48,7 @@ fn memory() -> [u32; WORDS]
 }
 
 // The same at capacity 2,048, in memory of its own.
-#[unsafe(no_mangle)]
-pub extern "C" fn typecheck_infer(
+pub fn typecheck_infer(
     formula: &[u8],
     environment: &[u8],
     names: u32,
@@ -80,8 +80,7 @@ pub extern "C" fn typecheck_infer(
 }
 
 // Reads a type's text and puts its record at the page's start; the length is the record's.
-#[unsafe(no_mangle)]
-pub extern "C" fn typecheck_read_text(
+pub fn typecheck_read_text(
     text: &[u8],
     table: &[u8],
     page: &mut [u8],
@@ -101,8 +100,7 @@ pub extern "C" fn typecheck_read_text(
 }
 
 // Writes the text of a type record into the page from a position on; the length is the text's.
-#[unsafe(no_mangle)]
-pub extern "C" fn typecheck_write_text(
+pub fn typecheck_write_text(
     bytes: &[u8],
     table: &[u8],
     page: &mut [u8],

@@ -1,13 +1,11 @@
 // Replays the fixed lists of the bought checker's answers through the entries that the workbench calls: each line is asked again, and what comes back is
 // compared byte by byte. Prints for each list its lines and how many were answered as they say.
-ghost use Rattle.io.specs.Counts.{IsPrefixLen};
+#![tactic(auto)]
 
-use libc::STDOUT_FILENO;
-use std::num::wrapping_add_u64;
+ghost use Rattle.std.specs.Prelude.{IfOk, ◌≤◌, length};
 
-fn say(text: &[u8]) {
-    io::write_all(STDOUT_FILENO, text);
-}
+use std::fs::{self, File};
+use std::io::{self, Read, Seek, SeekFrom};
 
 // ---- a list's text
 
@@ -49,7 +47,7 @@ fn after(list: &[u8], at: usize) -> usize {
 
 // Puts the bytes of a field of hexadecimal digits at the page's start, and answers how many there are. No digit, no byte.
 fn unhex(list: &[u8], from: usize, page: &mut [u8]) -> usize
-    ensures { IsPrefixLen result page.new }
+    ensures { result ≤ length page.new }
 {
     let mut at = from;
     let mut n = 0;
@@ -85,7 +83,7 @@ fn decimal(list: &[u8], from: usize) -> u32 {
 // ---- one line
 
 fn alike(a: &[u8; 512], b: &[u8; 512]) -> bool {
-    check::same(a, b)
+    a == b
 }
 
 // formula environment names number output
@@ -218,8 +216,8 @@ fn replay(list: &[u8]) -> Tally {
             };
         }
         let is = asks(list, line);
-        asked = wrapping_add_u64(asked, one_if(is));
-        answered = wrapping_add_u64(answered, one_if(is && agrees(list, line)));
+        asked = asked.wrapping_add(one_if(is));
+        answered = answered.wrapping_add(one_if(is && agrees(list, line)));
         line = end + 1;
         turns -= 1;
     }
@@ -230,49 +228,59 @@ fn replay(list: &[u8]) -> Tally {
     }
 }
 
-fn offset(from: u64) -> i64 {
-    if from < 4294967296 { from as i64 } else { 0 }
+fn offset(from: u64) -> u64 {
+    if from < 4294967296 { from } else { 0 }
+}
+
+// Reads until the buffer is full or the file ends, and answers how many bytes it put at the buffer's start.
+fn read_full(file: &mut File, buffer: &mut [u8]) -> io::Result<usize>
+    ensures { IfOk result (λ n. n ≤ length buffer.new) }
+{
+    let mut done = 0;
+    while done < buffer.len() {
+        let n = file.read(&mut buffer[done..])?;
+        if n == 0 {
+            return Ok(done);
+        }
+        done += n;
+    }
+    Ok(done)
 }
 
 // The lines of a file from an offset on that a buffer holds.
-fn replay_from(fd: i32, from: u64) -> Tally {
-    let mut list = io::large_buffer();
-    libc::lseek(fd, offset(from), libc::SEEK_SET);
-    let n = io::read_full(fd, &mut list);
-    replay(&list[..n])
+fn replay_from(file: &mut File, from: u64) -> io::Result<Tally> {
+    let mut list = [0u8; 65536];
+    file.seek(SeekFrom::Start(offset(from)))?;
+    let n = read_full(file, &mut list)?;
+    Ok(replay(&list[..n]))
 }
 
-fn replay_file(name: &[u8], fd: i32) {
+fn replay_file(rt: &impl Print, name: &str, file: &mut File) -> io::Result<()> {
     let mut from = 0u64;
     let mut asked = 0u64;
     let mut answered = 0u64;
     let mut turns: u32 = 1000;
     while turns > 0 {
-        let t = replay_from(fd, from);
-        asked = wrapping_add_u64(asked, t.asked);
-        answered = wrapping_add_u64(answered, t.answered);
-        from = wrapping_add_u64(from, t.used as u64);
+        let t = replay_from(file, from)?;
+        asked = asked.wrapping_add(t.asked);
+        answered = answered.wrapping_add(t.answered);
+        from = from.wrapping_add(t.used as u64);
         turns = if t.used == 0 { 0 } else { turns - 1 };
     }
-    say(name);
-    say(b": ");
-    io::print_decimal(STDOUT_FILENO, asked);
-    say(b" lines, ");
-    io::print_decimal(STDOUT_FILENO, answered);
-    say(b" answered as they say\n");
+    println!(rt; "{name}: {asked} lines, {answered} answered as they say")
 }
 
-fn replay_named(name: &[u8]) {
-    let fd = os::open_read(name);
-    if fd < 0 {
-        os::fail(name);
-        return;
+fn replay_named(rt: &HostRuntime, name: &str) -> io::Result<()> {
+    match fs::open(rt, name) {
+        Ok(file) => {
+            let mut file = file;
+            replay_file(rt, name, &mut file)
+        }
+        Err(error) => eprintln!(rt; "{name}: {error}"),
     }
-    replay_file(name, fd);
-    libc::close(fd);
 }
 
-fn main() {
-    replay_named(b"answers.txt");
-    replay_named(b"texts.txt");
+fn main(rt: HostRuntime) -> io::Result<()> {
+    replay_named(&rt, "answers.txt")?;
+    replay_named(&rt, "texts.txt")
 }

@@ -49,8 +49,7 @@ pub fn tell(a: Answer) -> Told
     }
 }
 
-#[unsafe(no_mangle)]
-pub extern "C" fn typecheck_read_text(
+pub fn typecheck_read_text(
     text: &[u8],
     table: &[u8],
     page: &mut [u8],
@@ -68,8 +67,7 @@ pub extern "C" fn typecheck_read_text(
     t.number
 }
 
-#[unsafe(no_mangle)]
-pub extern "C" fn typecheck_write_text(
+pub fn typecheck_write_text(
     bytes: &[u8],
     table: &[u8],
     page: &mut [u8],

@@ -9,14 +9,7 @@ ghost use Rattle.unifier_trial.specs.Numbers.{unified_as, told_as};
 use types::NodeRef;
 use unifier::{Told, Unified};
 
-#[unsafe(no_mangle)]
-pub extern "C" fn trial_unify(
-    words: &mut [u32],
-    budget: &mut u64,
-    count: u32,
-    a: u32,
-    b: u32,
-) -> u32
+pub fn trial_unify(words: &mut [u32], budget: &mut u64, count: u32, a: u32, b: u32) -> u32
     ensures { unified_as result budget.new words.new ≡ unify count (words.old, a, b) budget.old }
 {
     let given = *budget;
@@ -39,8 +32,7 @@ pub extern "C" fn trial_unify(
     }
 }
 
-#[unsafe(no_mangle)]
-pub extern "C" fn trial_solved(words: &[u32], budget: &mut u64, count: u32, t: u32) -> u32
+pub fn trial_solved(words: &[u32], budget: &mut u64, count: u32, t: u32) -> u32
     ensures { told_as result budget.new ≡ solved words.now count t budget.old }
 {
     let given = *budget;

@@ -4,7 +4,7 @@
 
 #[cfg(no_archive)]
 fn main() {
-    println!("the archive of unifier_trial is not there (rt staticlib unifier_trial): nothing was measured");
+    println!("the archive of unifier_trial is not there (tools/archive unifier_trial): nothing was measured");
 }
 
 #[cfg(not(no_archive))]

@@ -1,6 +1,6 @@
 //! The port against the bought checker's `type_check`: the same formulas, one process, one build.
 //!
-//!     rt staticlib host
+//!     tools/archive host
 //!     cargo run --offline --profile measure -p benchmark
 //!
 //! Three calls are timed: the bought `type_check` on its own formula; the port's inference at capacity 2,048 on the bytes; and the adapter's

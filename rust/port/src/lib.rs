@@ -1,8 +1,8 @@
 //! The checker's four exported entries, as safe Rust functions over byte slices.
 //!
-//! The entries are those of the proved archive, `libhost.a` (`rt staticlib host`). Where the archive was not there when this crate was
+//! The entries are those of the proved archive, `libhost.a` (`tools/archive host`). Where the archive was not there when this crate was
 //! built, the same functions are answered by `reference`, which is not proved: [`BACKEND`] says which it is, and [`PROVED`]. The text
-//! entries have an archive of their own beside it, `libtext_entries.a` (`rt staticlib text_entries`), for where the whole one is not there.
+//! entries have an archive of their own beside it, `libtext_entries.a` (`tools/archive text_entries`), for where the whole one is not there.
 //!
 //! Numbers, places and lengths are those of `docs/FORMAT.md`; nothing here judges them. The calls into the archive are all in one
 //! file, and it has the only `unsafe` of what a program links (`bench_unifier` has two calls of its own).

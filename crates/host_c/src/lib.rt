@@ -1,0 +1,107 @@
+// The archive that a program in another language links: each entry of `host` under its own name, with the same clauses.
+// A slice crosses as a pointer and then a length.
+#![tactic(auto)]
+
+ghost use Rattle.std.specs.Prelude.{◌≡◌, length as List·length};
+ghost use Rattle.inference.specs.Infer.{infer_of, output_after, work_after};
+ghost use Rattle.type_text.specs.Answer.{number_of, place_of, length_of, read_answer, read_page, write_answer, write_page};
+
+// Infers the types of a formula under an environment, at a capacity of the caller's, in work memory that is lent.
+#[unsafe(no_mangle)]
+pub extern "C" fn typecheck_infer_in(
+    formula: &[u8],
+    environment: &[u8],
+    names: u32,
+    capacity: u32,
+    budget: u64,
+    output: &mut [u8],
+    work: &mut [u32],
+    place: &mut u64,
+    length: &mut u64,
+    steps: &mut u64,
+) -> u32
+    ensures value { result ≡ (infer_of formula.now environment.now names capacity budget (List·length output.old) (List·length work.old)).number }
+    ensures place_after { place.new ≡ (infer_of formula.now environment.now names capacity budget (List·length output.old) (List·length work.old)).place }
+    ensures length_after { length.new ≡ (infer_of formula.now environment.now names capacity budget (List·length output.old) (List·length work.old)).size }
+    ensures steps_after { steps.new ≡ (infer_of formula.now environment.now names capacity budget (List·length output.old) (List·length work.old)).steps }
+    ensures output_after { output.new ≡ output_after (infer_of formula.now environment.now names capacity budget (List·length output.old) (List·length work.old)) output.old }
+    ensures work_after { work.new ≡ work_after (infer_of formula.now environment.now names capacity budget (List·length output.old) (List·length work.old)) work.old }
+{
+    host::typecheck_infer_in(
+        formula,
+        environment,
+        names,
+        capacity,
+        budget,
+        output,
+        work,
+        place,
+        length,
+        steps,
+    )
+}
+
+// The same at capacity 2,048, in memory of its own.
+#[unsafe(no_mangle)]
+pub extern "C" fn typecheck_infer(
+    formula: &[u8],
+    environment: &[u8],
+    names: u32,
+    budget: u64,
+    output: &mut [u8],
+    place: &mut u64,
+    length: &mut u64,
+    steps: &mut u64,
+) -> u32
+    ensures value { result ≡ (infer_of formula.now environment.now names 2048 budget (List·length output.old) 10240).number }
+    ensures place_after { place.new ≡ (infer_of formula.now environment.now names 2048 budget (List·length output.old) 10240).place }
+    ensures length_after { length.new ≡ (infer_of formula.now environment.now names 2048 budget (List·length output.old) 10240).size }
+    ensures steps_after { steps.new ≡ (infer_of formula.now environment.now names 2048 budget (List·length output.old) 10240).steps }
+    ensures output_after { output.new ≡ output_after (infer_of formula.now environment.now names 2048 budget (List·length output.old) 10240) output.old }
+{
+    host::typecheck_infer(
+        formula,
+        environment,
+        names,
+        budget,
+        output,
+        place,
+        length,
+        steps,
+    )
+}
+
+// Reads a type's text and puts its record at the page's start; the length is the record's.
+#[unsafe(no_mangle)]
+pub extern "C" fn typecheck_read_text(
+    text: &[u8],
+    table: &[u8],
+    page: &mut [u8],
+    place: &mut u64,
+    length: &mut u64,
+) -> u32
+    ensures value { result ≡ number_of (read_answer text.now table.now page.old) }
+    ensures place_after { place.new ≡ place_of (read_answer text.now table.now page.old) }
+    ensures length_after { length.new ≡ length_of (read_answer text.now table.now page.old) }
+    ensures page_after { page.new ≡ read_page text.now table.now page.old }
+{
+    host::typecheck_read_text(text, table, page, place, length)
+}
+
+// Writes the text of a type record into the page from a position on; the length is the text's.
+#[unsafe(no_mangle)]
+pub extern "C" fn typecheck_write_text(
+    bytes: &[u8],
+    table: &[u8],
+    page: &mut [u8],
+    position: u64,
+    place: &mut u64,
+    length: &mut u64,
+) -> u32
+    ensures value { result ≡ number_of (write_answer bytes.now table.now page.old position) }
+    ensures place_after { place.new ≡ place_of (write_answer bytes.now table.now page.old position) }
+    ensures length_after { length.new ≡ length_of (write_answer bytes.now table.now page.old position) }
+    ensures page_after { page.new ≡ write_page bytes.now table.now page.old position }
+{
+    host::typecheck_write_text(bytes, table, page, position, place, length)
+}
