@@ -1,6 +1,8 @@
 // Inference: a formula's one typing, its problems, or a numbered refusal, from bytes to bytes. Sizes are tested first, then the forms of environment and
 // formula; then the formula is walked over the lent words, names and slots are tested, and the answer is written. Whatever the inputs are, `infer` answers,
 // and what it leaves in output and work follows from the inputs alone.
+#![tactic(auto)]
+
 ghost use Rattle.std.specs.Prelude.{◌≡◌, List, ℕ, ◌+◌, ◌*◌, ◌≤◌, length, take};
 ghost use Rattle.machine.specs.Machine.{mach, smaller};
 ghost use Rattle.runner.specs.Run.{run_of, judged, judge_of};
