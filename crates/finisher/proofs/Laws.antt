@@ -1,10 +1,5 @@
 -- Laws that the proofs of the finish cite: what the answers of the test and of the writer do to the machine, and one turn of a row's loop.
-use Prim.Native.Nat.{ℕ, zero, suc, ◌+◌, ◌-◌, ◌≤◌, ◌<◌}
-use mathlib.Core.Path.{◌≡◌, refl, sym, ap, ◌∙◌}
-use mathlib.Core.Bool.{Bool, true, false}
-use mathlib.Core.List.{List}
-use native.Mathlib.Omega.{arith}
-use lib.ListN.{take, drop}
+use Rattle.std.proofs.Common.{ℕ, zero, suc, ◌+◌, ◌-◌, ◌≤◌, ◌<◌, sym, arith, ◌≡◌, ap, ◌∙◌, refl, Bool, true, false, List, take, drop}
 use Rattle.meter.specs.Meter.{Out, spent, halt, done, Why, broken, full}
 use Rattle.unification.specs.Arena as A
 use Rattle.unification.specs.Put as P

@@ -200,7 +200,7 @@ fn read_decls(s: &[u8], names: u32, left: u32, n: u8, o: Out) -> Out
 // ---- expressions and predicates
 
 // bare: where no 0C may stand.
-#[cycle(read_expr_read_exprs_read_pred_read_preds)]
+#[cycle(reading)]
 fn read_expr(s: &[u8], names: u32, bare: bool, left: u32, o: Out) -> Out
     ensures { result ≡ after o (expr_at left names (reach s.now) bare) }
 {
@@ -248,7 +248,7 @@ fn read_expr(s: &[u8], names: u32, bare: bool, left: u32, o: Out) -> Out
     }
 }
 
-#[cycle(read_expr_read_exprs_read_pred_read_preds)]
+#[cycle(reading)]
 fn read_exprs(s: &[u8], names: u32, left: u32, n: u16, o: Out) -> Out
     ensures { result ≡ after o (exprs_at left names (reach s.now) n) }
 {
@@ -268,7 +268,7 @@ fn read_exprs(s: &[u8], names: u32, left: u32, n: u16, o: Out) -> Out
     cur
 }
 
-#[cycle(read_expr_read_exprs_read_pred_read_preds)]
+#[cycle(reading)]
 fn read_pred(s: &[u8], names: u32, left: u32, o: Out) -> Out
     ensures { result ≡ after o (pred_at left names (reach s.now)) }
 {
@@ -311,7 +311,7 @@ fn read_pred(s: &[u8], names: u32, left: u32, o: Out) -> Out
     }
 }
 
-#[cycle(read_expr_read_exprs_read_pred_read_preds)]
+#[cycle(reading)]
 fn read_preds(s: &[u8], names: u32, left: u32, n: u16, o: Out) -> Out
     ensures { result ≡ after o (preds_at left names (reach s.now) n) }
 {

@@ -1,6 +1,5 @@
 -- The root of a lifting: what its maker answered, with the place after the record.
-use Prim.Native.Nat.{ℕ}
-use mathlib.Core.Path.{◌≡◌, sym}
+use Rattle.std.proofs.Common.{ℕ, ◌≡◌, sym}
 use Rattle.meter.specs.Meter.{Why, broken, full}
 use Rattle.unification.specs.Arena.{Words, Node}
 use Rattle.unification.specs.Make.{build}

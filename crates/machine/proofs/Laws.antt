@@ -1,16 +1,9 @@
 -- Laws that the proofs of the machine's steps cite: the arena lent as the first words of the work slice, what the unifier's answers do, and the
 -- recursive readers at a number of levels.
-use Prim.Native.Nat.{ℕ, zero, suc, ◌+◌, ◌-◌, ◌*◌, ◌≤◌, ◌<◌}
-use mathlib.Core.Path.{◌≡◌, refl, sym, ap, ap₂, ◌∙◌}
-use mathlib.Core.List.{List, [], ◌∷◌, ◌++◌}
-use native.Mathlib.Omega.{arith}
-use native.Mathlib.Decide.{dec_lt}
-use native.Mathlib.Numerals.{sub-one}
-use native.Mathlib.Nat.{mul-le-mul_right, le_of_lt}
-use lib.Dec.{eqb, ltb}
-use borrow.Author.Tests.{lt-ltb, le-ltb, ne_eqb}
-use lib.ListN.{length, take, drop, set, drop_of_length-le}
-use lib.Seq.{length-take-le, take_all, take_at, drop_at, take-set-le, drop-set-add, set_out}
+use Rattle.std.proofs.Common.{ℕ, zero, suc, ◌+◌, ◌-◌, ◌*◌, ◌≤◌, ◌<◌, sym, arith, sub-one, length-take-le, List, [], ◌∷◌, ◌++◌, lt-ltb, le-ltb, ne_eqb, ◌≡◌, ap, ap₂, ◌∙◌, refl, eqb, ltb, length, take, drop, set, mul-le-mul_right, le_of_lt, drop_of_length-le}
+use Rattle.std.proofs.Math.Decide.{dec_lt}
+use Rattle.std.proofs.Math.Seq.{take_all, take_at, drop_at, set_out}
+use Rattle.std.proofs.lemmas.List.{take-set-le, drop-set-add}
 use Rattle.meter.specs.Meter.{Out, M, ret, fail}
 use Rattle.types.specs.declared.NodeRef.{NodeRef}
 use Rattle.types.specs.declared.Name.{Name}

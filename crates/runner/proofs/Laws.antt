@@ -1,12 +1,5 @@
 -- Small facts for the proofs of this crate.
-use mathlib.Core.Path.{◌≡◌, refl, sym, ap, ap₂, ◌∙◌}
-use mathlib.Core.Bool.{Bool, true, false, ◌&&◌}
-use mathlib.Core.List.{List, [], ◌∷◌}
-use native.Mathlib.Omega.{arith}
-use Prim.Native.Nat.{ℕ, zero, suc, ◌+◌, ◌*◌, ◌≤◌, ◌<◌}
-use lib.Dec.{leb}
-use lib.ListN.{get_or}
-use Prim.Native.Nat.{◌-◌}
+use Rattle.std.proofs.Common.{◌≡◌, ◌∙◌, refl, Bool, true, false, leb, sym, ap, ap₂, arith, le-leb, List, [], ◌∷◌, ℕ, zero, suc, ◌+◌, ◌*◌, ◌≤◌, ◌<◌, ◌-◌, ◌&&◌, get_or}
 use Rattle.machine.specs.Machine.{Mach, cell, put_of}
 use Rattle.runner.specs.Begin.{entered_from}
 use types.Run.{OneOf, miss}
@@ -19,7 +12,7 @@ use Rattle.formula.specs.declared.Fault.TheVariants as F
 use Rattle.types.specs.declared.Place.{Place}
 use Rattle.forms.specs.Forms.{test}
 use Rattle.inference.specs.Infer.{sized}
-use borrow.Author.Tests.{le-leb, lt-leb}
+use Rattle.std.proofs.lemmas.Bool.{lt-leb}
 use Rattle.memory.specs.Memory.{cleared}
 use Rattle.runner.specs.Answers.{told, called}
 use Rattle.runner.specs.Run.{Judged, judged, fault_of}

@@ -1,10 +1,5 @@
 -- What the remaining arm of a match knows of a token.
-use Prim.Native.Nat.{ℕ}
-use native.Mathlib.Omega.{arith}
-use mathlib.Core.Path.{◌≡◌, refl}
-use mathlib.Core.Bool.{Bool}
-use mathlib.Core.Logic.{⊎_elim}
-use mathlib.Core.List.{List, [], ◌∷◌}
+use Rattle.std.proofs.Common.{ℕ, refl, Bool, arith, List, [], ◌∷◌, ◌≡◌, ⊎_elim}
 use types.Run.{OneOf}
 use denote.Enum.Declared.{tag_of}
 use Rattle.type_grammar.specs.contracts.Token.{the_type}

@@ -91,7 +91,7 @@ fn scan_close(text: &[u8], table: &[u8], power: bool, s: Scanned) -> Scanned
     }
 }
 
-#[cycle(scan_operand_scan_product_scan_times)]
+#[cycle(scanning)]
 fn scan_operand(text: &[u8], table: &[u8], c: Cursor, room: Room) -> Scanned
     ensures { result ≡ scanned_of room (operand_of c.left (names table.now) text.now c.at) }
 {
@@ -130,7 +130,7 @@ fn scan_operand(text: &[u8], table: &[u8], c: Cursor, room: Room) -> Scanned
     }
 }
 
-#[cycle(scan_operand_scan_product_scan_times)]
+#[cycle(scanning)]
 pub fn scan_product(text: &[u8], table: &[u8], c: Cursor, room: Room) -> Scanned
     ensures { result ≡ scanned_of room (product_of c.left (names table.now) text.now c.at) }
 {
@@ -142,7 +142,7 @@ pub fn scan_product(text: &[u8], table: &[u8], c: Cursor, room: Room) -> Scanned
 }
 
 // The operands after the first.
-#[cycle(scan_operand_scan_product_scan_times)]
+#[cycle(scanning)]
 fn scan_times(text: &[u8], table: &[u8], left: u8, at: usize, depth: u8, room: Room) -> Scanned
     ensures { result ≡ scan_times_of left (names table.now) text.now (length text.now) at depth room }
 {
@@ -221,7 +221,7 @@ fn after_close(text: &[u8], table: &[u8], e: usize) -> usize
     }
 }
 
-#[cycle(lay_operand_lay_operand_at_lay_product_lay_product_at)]
+#[cycle(laying)]
 fn lay_operand(text: &[u8], table: &[u8], c: Cursor, page: &mut [u8]) -> Wrote
     requires { LayReady (operand_of c.left (names table.now) text.now c.at) 0 (length page.old) }
     ensures { Laid (operand_of c.left (names table.now) text.now c.at) 0 page.old page.new result.end result.width }
@@ -273,7 +273,7 @@ fn lay_operand(text: &[u8], table: &[u8], c: Cursor, page: &mut [u8]) -> Wrote
 }
 
 // Lends the page's tail to a nested operand.
-#[cycle(lay_operand_lay_operand_at_lay_product_lay_product_at)]
+#[cycle(laying)]
 fn lay_operand_at(text: &[u8], table: &[u8], c: Cursor, page: &mut [u8], from: usize) -> Wrote
     requires { LayReady (operand_of c.left (names table.now) text.now c.at) from (length page.old) }
     ensures { Laid (operand_of c.left (names table.now) text.now c.at) from page.old page.new result.end result.width }
@@ -282,7 +282,7 @@ fn lay_operand_at(text: &[u8], table: &[u8], c: Cursor, page: &mut [u8], from: u
 }
 
 // Lends the page's tail to a product in brackets.
-#[cycle(lay_operand_lay_operand_at_lay_product_lay_product_at)]
+#[cycle(laying)]
 fn lay_product_at(text: &[u8], table: &[u8], c: Cursor, page: &mut [u8], from: usize) -> Wrote
     requires { LayReady (product_of c.left (names table.now) text.now c.at) from (length page.old) }
     ensures { Laid (product_of c.left (names table.now) text.now c.at) from page.old page.new result.end result.width }
@@ -291,7 +291,7 @@ fn lay_product_at(text: &[u8], table: &[u8], c: Cursor, page: &mut [u8], from: u
 }
 
 // Each × moves the record so far one place on. The type is at most 64 deep by now, so no byte moves more often than that.
-#[cycle(lay_operand_lay_operand_at_lay_product_lay_product_at)]
+#[cycle(laying)]
 pub(crate) fn lay_product(text: &[u8], table: &[u8], c: Cursor, page: &mut [u8]) -> Wrote
     requires { LayReady (product_of c.left (names table.now) text.now c.at) 0 (length page.old) }
     ensures { Laid (product_of c.left (names table.now) text.now c.at) 0 page.old page.new result.end result.width }

@@ -122,7 +122,7 @@ fn put_atom(table: &[u8], a: Atom, page: &mut [u8]) -> usize
 }
 
 // Lends the page's tail to a nested operand.
-#[cycle(put_put_at)]
+#[cycle(putting)]
 pub(crate) fn put_at(
     bytes: &[u8],
     table: &[u8],
@@ -140,7 +140,7 @@ pub(crate) fn put_at(
 }
 
 // Puts a type's text at the page's start.
-#[cycle(put_put_at)]
+#[cycle(putting)]
 fn put(
     bytes: &[u8],
     table: &[u8],

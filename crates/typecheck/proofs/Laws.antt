@@ -1,14 +1,7 @@
 -- Small facts for the proofs of this crate.
-use Prim.Native.Nat.{ℕ, zero, suc, ◌+◌, ◌-◌, ◌*◌, ◌≤◌, ◌<◌}
-use mathlib.Core.Path.{◌≡◌, refl, sym, ap, ap₂, ◌∙◌, subst}
-use mathlib.Core.Bool.{Bool, true, false}
-use mathlib.Core.List.{List, [], ◌∷◌, ◌++◌}
-use native.Mathlib.Omega.{arith}
-use native.Mathlib.Decide.{dec_lt}
-use lib.Dec.{ltb}
-use lib.ListN.{length, take, drop}
-use lib.Seq.{take_all, take-append_seam, length-take-le, length_front}
-use borrow.Author.Tests.{lt-ltb, le-ltb}
+use Rattle.std.proofs.Common.{ℕ, zero, suc, ◌+◌, ◌-◌, ◌*◌, ◌≤◌, ◌<◌, sym, ap, ap₂, subst, arith, length-take-le, lt-ltb, le-ltb, List, [], ◌∷◌, ◌++◌, ◌≡◌, ◌∙◌, refl, Bool, true, false, ltb, length, take, drop}
+use Rattle.std.proofs.Math.Decide.{dec_lt}
+use Rattle.std.proofs.Math.Seq.{take_all, take-append_seam, length_front}
 use Rattle.machine.specs.declared.State.{State}
 use Rattle.forms.specs.Forms.{test}
 use Rattle.machine.specs.Machine.{Mach, mach, smaller}

@@ -1,12 +1,5 @@
 -- The steps of the walk at a number of levels, and of its loops, as the code has them.
-use Prim.Native.Nat.{ℕ, zero, suc, ◌+◌, ◌-◌, ◌<◌, ◌≤◌}
-use mathlib.Core.Path.{◌≡◌, refl, sym, ap, ap₂, ◌∙◌}
-use mathlib.Core.Bool.{false}
-use mathlib.Core.List.{List, [], ◌∷◌}
-use native.Mathlib.Numerals.{sub-one}
-use native.Mathlib.Omega.{arith}
-use lib.Dec.{eqb}
-use borrow.Author.Tests.{ne_eqb}
+use Rattle.std.proofs.Common.{ℕ, zero, suc, ◌+◌, ◌-◌, ◌<◌, ◌≤◌, sym, ap, ap₂, sub-one, arith, List, [], ◌∷◌, ne_eqb, ◌≡◌, ◌∙◌, refl, false, eqb}
 use types.Run.{OneOf, miss}
 use denote.Enum.Declared.{tag_of}
 use Rattle.types.specs.Limits.{max_names}

@@ -45,7 +45,7 @@ fn next(mode: u8, y: NodeRef, t: NodeRef) -> NodeRef
 // ---- the cycle: expressions and predicates
 
 // An expression, with what stands below it.
-#[cycle(all_ascribed_body_each_explicit_expr_one_owned_pbody_pquant_pred_preds_quant_two)]
+#[cycle(walking)]
 fn expr(
     s: &[u8],
     env: &[u8],
@@ -67,7 +67,7 @@ fn expr(
 }
 
 // 0C, an expression of a stated type, the type at e: the comparison stands at the expression's own place, after its walk.
-#[cycle(all_ascribed_body_each_explicit_expr_one_owned_pbody_pquant_pred_preds_quant_two)]
+#[cycle(walking)]
 fn explicit(
     s: &[u8],
     env: &[u8],
@@ -98,7 +98,7 @@ fn explicit(
 }
 
 // Any other expression, with its head. Its slot is taken before its parts' and filled after them.
-#[cycle(all_ascribed_body_each_explicit_expr_one_owned_pbody_pquant_pred_preds_quant_two)]
+#[cycle(walking)]
 fn owned(
     s: &[u8],
     env: &[u8],
@@ -125,7 +125,7 @@ fn owned(
 }
 
 // The rule of an expression, by its head.
-#[cycle(all_ascribed_body_each_explicit_expr_one_owned_pbody_pquant_pred_preds_quant_two)]
+#[cycle(walking)]
 fn body(
     s: &[u8],
     env: &[u8],
@@ -183,7 +183,7 @@ fn body(
 }
 
 // 0B, an expression whose type is ascribed: the ascription stands behind it, and is compared at the record's place.
-#[cycle(all_ascribed_body_each_explicit_expr_one_owned_pbody_pquant_pred_preds_quant_two)]
+#[cycle(walking)]
 fn ascribed(
     s: &[u8],
     env: &[u8],
@@ -204,7 +204,7 @@ fn ascribed(
 }
 
 // One expression, and then a script.
-#[cycle(all_ascribed_body_each_explicit_expr_one_owned_pbody_pquant_pred_preds_quant_two)]
+#[cycle(walking)]
 fn one(
     s: &[u8],
     env: &[u8],
@@ -226,7 +226,7 @@ fn one(
 }
 
 // Two expressions, and then a script.
-#[cycle(all_ascribed_body_each_explicit_expr_one_owned_pbody_pquant_pred_preds_quant_two)]
+#[cycle(walking)]
 fn two(
     s: &[u8],
     env: &[u8],
@@ -273,7 +273,7 @@ const APPLICATION: Plan = Plan {
 };
 
 // Any number of expressions, by a plan.
-#[cycle(all_ascribed_body_each_explicit_expr_one_owned_pbody_pquant_pred_preds_quant_two)]
+#[cycle(walking)]
 fn all(
     s: &[u8],
     env: &[u8],
@@ -299,7 +299,7 @@ fn all(
 }
 
 // n expressions, one after the other. The last reference is then where the last of them ended.
-#[cycle(all_ascribed_body_each_explicit_expr_one_owned_pbody_pquant_pred_preds_quant_two)]
+#[cycle(walking)]
 fn each(
     s: &[u8],
     env: &[u8],
@@ -334,7 +334,7 @@ fn each(
 }
 
 // 0A, a quantified expression: its operator, its declarations' count, and where they begin.
-#[cycle(all_ascribed_body_each_explicit_expr_one_owned_pbody_pquant_pred_preds_quant_two)]
+#[cycle(walking)]
 fn quant(
     s: &[u8],
     env: &[u8],
@@ -359,7 +359,7 @@ fn quant(
 }
 
 // A predicate, with what stands below it.
-#[cycle(all_ascribed_body_each_explicit_expr_one_owned_pbody_pquant_pred_preds_quant_two)]
+#[cycle(walking)]
 fn pred(
     s: &[u8],
     env: &[u8],
@@ -387,7 +387,7 @@ fn pred(
 }
 
 // The rule of a predicate, by its head.
-#[cycle(all_ascribed_body_each_explicit_expr_one_owned_pbody_pquant_pred_preds_quant_two)]
+#[cycle(walking)]
 fn pbody(
     s: &[u8],
     env: &[u8],
@@ -434,7 +434,7 @@ fn pbody(
 }
 
 // 26, a quantified predicate.
-#[cycle(all_ascribed_body_each_explicit_expr_one_owned_pbody_pquant_pred_preds_quant_two)]
+#[cycle(walking)]
 fn pquant(
     s: &[u8],
     env: &[u8],
@@ -455,7 +455,7 @@ fn pquant(
 }
 
 // n predicates.
-#[cycle(all_ascribed_body_each_explicit_expr_one_owned_pbody_pquant_pred_preds_quant_two)]
+#[cycle(walking)]
 fn preds(
     s: &[u8],
     env: &[u8],

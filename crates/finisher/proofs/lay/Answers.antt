@@ -1,14 +1,8 @@
-use mathlib.Core.Path.{◌≡◌, refl, sym, ap, ◌∙◌}
-use native.Mathlib.Omega.{arith}
+use Rattle.std.proofs.Common.{◌≡◌, ◌∙◌, refl, ℕ, List, take, sym, ap, arith, length-take-le, rules}
 use Rattle.forms.specs.Forms.{test, then, step, yes_if, no_if, yes_eq, no_eq, yes_lt, no_lt, yes_le, no_le}
-use Prim.Native.Nat.{ℕ}
-use mathlib.Core.List.{List}
-use lib.ListN.{take}
-use lib.Seq.{length-take-le}
 use Rattle.unification.specs.Put.{put}
 use Rattle.machine.proofs.Laws.{lent}
 use Rattle.finisher.specs.Finisher.{most}
-use borrow.Author.Rules.{rules}
 use Rattle.finisher.proofs.lay.Goals as goal
 
 pub slice_bounds-put-end : goal.slice_bounds-put-end

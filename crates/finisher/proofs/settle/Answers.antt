@@ -1,10 +1,8 @@
-use mathlib.Core.Path.{◌≡◌, refl, sym, ap, ◌∙◌}
-use native.Mathlib.Omega.{arith}
+use Rattle.std.proofs.Common.{◌≡◌, ◌∙◌, refl, sym, ap, arith, rules}
 use Rattle.forms.specs.Forms.{test, then, step, yes_if, no_if, yes_eq, no_eq, yes_lt, no_lt, yes_le, no_le}
 use Rattle.unifier.specs.Answers.{told}
 use Rattle.finisher.specs.Finisher.{settle_of}
 use Rattle.finisher.proofs.Laws.{told_yes, told_no, told-spent, told_broken}
-use borrow.Author.Rules.{rules}
 use Rattle.finisher.proofs.settle.Goals as goal
 
 pub returns-then-st-ne0 : goal.returns-then-st-ne0

@@ -1,11 +1,9 @@
-use mathlib.Core.Path.{◌≡◌, refl, sym, ap, ◌∙◌}
-use native.Mathlib.Omega.{arith}
+use Rattle.std.proofs.Common.{◌≡◌, ◌∙◌, refl, sym, ap, arith, rules}
 use Rattle.forms.specs.Forms.{test, then, step, yes_if, no_if, yes_eq, no_eq, yes_lt, no_lt, yes_le, no_le}
 use Rattle.write.specs.declared.Wrote.{Wrote}
 use Rattle.write.specs.Answers.{laid}
 use Rattle.finisher.specs.Finisher.{spell_of}
 use Rattle.finisher.proofs.Laws.{laid-at, laid_full, laid-spent, laid_broken}
-use borrow.Author.Rules.{rules}
 use Rattle.finisher.proofs.spell.Goals as goal
 
 pub returns-then-st-ne0 : goal.returns-then-st-ne0

@@ -1,12 +1,8 @@
-use mathlib.Core.Path.{◌≡◌, refl, sym, ap, ◌∙◌}
-use native.Mathlib.Omega.{arith}
+use Rattle.std.proofs.Common.{◌≡◌, ◌∙◌, refl, length, sym, ap, arith, rules, ℕ, ◌-◌}
 use Rattle.forms.specs.Forms.{test, then, step, yes_if, no_if, yes_eq, no_eq, yes_lt, no_lt, yes_le, no_le}
-use Prim.Native.Nat.{ℕ, ◌-◌}
-use lib.ListN.{length}
 use Rattle.machine.specs.Machine.{mach}
 use Rattle.finisher.specs.Finisher.{each_of, entry_of, write_names_of}
 use Rattle.finisher.proofs.Laws.{each_none, each_more, each_start}
-use borrow.Author.Rules.{rules}
 use Rattle.finisher.proofs.write_names.Goals as goal
 
 pub loop-j-init : goal.loop-j-init

@@ -1,7 +1,5 @@
 use Rattle.formula.specs.EnvParse.{capped}
-use borrow.Author.Tests.{lt-ltb, le-ltb}
-use native.Mathlib.Omega.{arith}
-use mathlib.Core.Path.{◌≡◌, refl, sym, ap, ◌∙◌}
+use Rattle.std.proofs.Common.{lt-ltb, le-ltb, arith, sym, ap, ◌≡◌, ◌∙◌, refl}
 use Rattle.formula.proofs.cap.Goals as goal
 
 pub returns-then-names-gt-MAX_NAMES : goal.returns-then-names-gt-MAX_NAMES

@@ -1,6 +1,5 @@
 use Rattle.formula.specs.Reader.{closed_of, closed}
-use mathlib.Core.Path.{◌≡◌, refl, sym, ap, ◌∙◌}
-use borrow.Author.Rules.{rules}
+use Rattle.std.proofs.Common.{◌≡◌, ◌∙◌, refl, sym, ap, rules}
 use Rattle.formula.proofs.close.Goals as goal
 
 pub returns-in-Stop : goal.returns-in-Stop

@@ -1,9 +1,6 @@
-use mathlib.Core.Path.{◌≡◌, refl, sym, ap, ◌∙◌}
-use native.Mathlib.Omega.{arith}
-use borrow.Author.Tests.{eq-eqb, ne_eqb}
+use Rattle.std.proofs.Common.{◌≡◌, ◌∙◌, refl, sym, ap, arith, rules, eq-eqb, ne_eqb}
 use Rattle.heads.specs.Heads.{on_byte}
 use Rattle.formula.specs.EnvParse.{entry_at}
-use borrow.Author.Rules.{rules}
 use Rattle.formula.proofs.entry_at.Goals as goal
 
 pub returns-then-k-eq80 : goal.returns-then-k-eq80

@@ -3,10 +3,7 @@ use Rattle.formula.specs.Steps.{decls-none, decls-next}
 use Rattle.formula.specs.Parse.{decls_at}
 use Rattle.formula.specs.Reader.{after}
 use Rattle.formula.specs.declared.Out.{Out}
-use borrow.Author.Rules.{rules}
-use Prim.Native.Nat.{ℕ, ◌≤◌}
-use native.Mathlib.Omega.{arith}
-use mathlib.Core.Path.{◌≡◌, refl, sym, ap, ◌∙◌}
+use Rattle.std.proofs.Common.{rules, arith, sym, ap, ℕ, ◌≤◌, ◌≡◌, ◌∙◌, refl}
 use Rattle.formula.proofs.read_decls.Given as goal
 
 abbrev pub invariant-loop-i : goal.invariant-loop-i

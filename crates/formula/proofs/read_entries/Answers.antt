@@ -1,12 +1,6 @@
 use Rattle.formula.specs.EnvSteps.{Going, going_start, turn-next, answer-good, answer-out, answer-wrong}
 use Rattle.formula.specs.EnvParse.{entries_from}
-use borrow.Author.Tests.{leb-true, leb-false}
-use borrow.Author.Rules.{rules}
-use mathlib.Core.List.{[]}
-use lib.ListN.{length}
-use Prim.Native.Nat.{ℕ, ◌≤◌, ◌<◌}
-use native.Mathlib.Omega.{arith}
-use mathlib.Core.Path.{◌≡◌, refl, sym, ap, ◌∙◌}
+use Rattle.std.proofs.Common.{leb-true, leb-false, rules, arith, sym, ap, ℕ, ◌≤◌, ◌<◌, [], length, refl, ◌≡◌, ◌∙◌}
 use Rattle.formula.proofs.read_entries.Goals as goal
 
 pub loop-turns-init : goal.loop-turns-init

@@ -1,7 +1,5 @@
 use Rattle.formula.specs.EnvSteps.{entered_reach, entry-end, entered_none, entered_again, entered_by_lem, entered_by}
-use mathlib.Core.Path.{◌≡◌, refl, sym, ap, ◌∙◌}
-use native.Mathlib.Omega.{arith}
-use borrow.Author.Rules.{rules}
+use Rattle.std.proofs.Common.{◌≡◌, ◌∙◌, refl, sym, ap, arith, rules}
 use Rattle.formula.proofs.read_entry.Goals as goal
 
 pub bounds-types-i : goal.bounds-types-i

@@ -1,6 +1,5 @@
 use Rattle.formula.specs.Steps.{root_out, root_by_lem}
-use mathlib.Core.Path.{◌≡◌, refl, sym, ◌∙◌}
-use borrow.Author.Rules.{rules}
+use Rattle.std.proofs.Common.{◌≡◌, ◌∙◌, refl, sym, rules}
 use Rattle.formula.proofs.read_formula.Goals as goal
 
 pub returns-in-Wrong : goal.returns-in-Wrong

@@ -1,7 +1,5 @@
 use Rattle.formula.specs.Steps.{pair-both}
-use native.Mathlib.Omega.{arith}
-use mathlib.Core.Path.{◌≡◌, refl, sym, ap, ◌∙◌}
-use borrow.Author.Rules.{rules}
+use Rattle.std.proofs.Common.{arith, sym, ap, rules, ◌≡◌, ◌∙◌, refl}
 use Rattle.formula.proofs.read_pair.Goals as goal
 
 pub returns : goal.returns

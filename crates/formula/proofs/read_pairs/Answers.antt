@@ -2,10 +2,7 @@ use Rattle.types.specs.Record.{reach}
 use Rattle.formula.specs.Steps.{pairs-none, pairs_next}
 use Rattle.formula.specs.Parse.{pairs_at}
 use Rattle.formula.specs.Reader.{after}
-use borrow.Author.Rules.{rules}
-use Prim.Native.Nat.{ℕ, ◌≤◌}
-use native.Mathlib.Omega.{arith}
-use mathlib.Core.Path.{◌≡◌, refl, sym, ap, ◌∙◌}
+use Rattle.std.proofs.Common.{rules, arith, sym, ap, ℕ, ◌≤◌, ◌≡◌, ◌∙◌, refl}
 use Rattle.formula.proofs.read_pairs.Goals as goal
 
 pub loop-i-init : goal.loop-i-init

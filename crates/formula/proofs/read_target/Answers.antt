@@ -1,7 +1,5 @@
 use Rattle.formula.specs.Steps.{after_stop, target-wrong, target-own}
-use native.Mathlib.Omega.{arith}
-use mathlib.Core.Path.{◌≡◌, refl, sym, ap, ◌∙◌}
-use borrow.Author.Rules.{rules}
+use Rattle.std.proofs.Common.{arith, sym, ap, rules, ◌≡◌, ◌∙◌, refl}
 use Rattle.formula.proofs.read_target.Goals as goal
 
 pub returns-in-Stop : goal.returns-in-Stop

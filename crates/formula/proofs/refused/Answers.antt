@@ -1,4 +1,4 @@
-use mathlib.Core.Path.{refl}
+use Rattle.std.proofs.Common.{refl}
 use Rattle.formula.specs.EnvTold.{blank}
 use Rattle.formula.proofs.refused.Goals as goal
 

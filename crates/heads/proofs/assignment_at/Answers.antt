@@ -1,6 +1,5 @@
-use mathlib.Core.Path.{◌≡◌, refl, sym, ap, ◌∙◌}
+use Rattle.std.proofs.Common.{◌≡◌, ◌∙◌, refl, sym, ap, rules}
 use Rattle.heads.specs.Reads.{assignment_missing, assignment_becomes, assignment_in, assignment_such, assignment_wrong}
-use borrow.Author.Rules.{rules}
 use Rattle.heads.proofs.assignment_at.Goals as goal
 
 pub returns-in-Missing : goal.returns-in-Missing

@@ -1,6 +1,5 @@
-use native.Mathlib.Omega.{arith}
+use Rattle.std.proofs.Common.{arith, rules}
 use Rattle.heads.specs.Reads.{byte_reached, byte_ended, byte_beyond}
-use borrow.Author.Rules.{rules}
 use Rattle.heads.proofs.byte_at.Goals as goal
 
 pub returns-then-p-lt4294967295 : goal.returns-then-p-lt4294967295

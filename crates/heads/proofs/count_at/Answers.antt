@@ -1,8 +1,6 @@
-use mathlib.Core.Path.{◌≡◌, refl, sym, ap, ◌∙◌}
-use native.Mathlib.Omega.{arith}
-use borrow.Author.Tests.{le-leb, lt-leb}
+use Rattle.std.proofs.Common.{◌≡◌, ◌∙◌, refl, sym, ap, arith, le-leb, rules}
+use Rattle.std.proofs.lemmas.Bool.{lt-leb}
 use Rattle.heads.specs.Heads.{count_at, on_word}
-use borrow.Author.Rules.{rules}
 use Rattle.heads.proofs.count_at.Goals as goal
 
 pub returns-then-least-n : goal.returns-then-least-n

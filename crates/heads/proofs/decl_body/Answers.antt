@@ -1,6 +1,4 @@
-use borrow.Author.Tests.{ne_eqb}
-use mathlib.Core.Path.{◌≡◌, refl, sym, ap, ◌∙◌}
-use native.Mathlib.Omega.{arith}
+use Rattle.std.proofs.Common.{ne_eqb, sym, ap, arith, ◌≡◌, ◌∙◌, refl}
 use Rattle.heads.specs.Heads.{decl_body}
 use Rattle.heads.proofs.decl_body.Goals as goal
 

@@ -1,5 +1,5 @@
 use Rattle.heads.specs.Heads.{decl_end}
-use borrow.Author.Rules.{rules}
+use Rattle.std.proofs.Common.{rules}
 use Rattle.heads.proofs.decl_end.Goals as goal
 
 pub returns-in-Plain : goal.returns-in-Plain

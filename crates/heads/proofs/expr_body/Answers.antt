@@ -1,10 +1,7 @@
-use borrow.Author.Tests.{ne_eqb}
-use mathlib.Core.Path.{◌≡◌, refl, sym, ap, ◌∙◌}
-use native.Mathlib.Omega.{arith}
+use Rattle.std.proofs.Common.{ne_eqb, sym, ap, arith, rules, ◌≡◌, ◌∙◌, refl}
 use Rattle.heads.specs.Counts.{atomic_operators, least_listed, binary_operators, associative_operators, least_joined, unary_operators, quantifiers}
 use Rattle.heads.specs.Reads.{op_as, count_as}
 use Rattle.heads.specs.Heads.{expr_body, on_byte, on_word}
-use borrow.Author.Rules.{rules}
 use Rattle.heads.proofs.expr_body.Goals as goal
 
 pub returns-then-bare : goal.returns-then-bare

@@ -1,8 +1,6 @@
-use mathlib.Core.Path.{◌≡◌, refl, sym, ap, ◌∙◌}
-use native.Mathlib.Omega.{arith}
+use Rattle.std.proofs.Common.{◌≡◌, ◌∙◌, refl, sym, ap, arith, rules}
 use Rattle.heads.specs.Reads.{few-some, few-none}
 use Rattle.heads.specs.Heads.{few_at, on_byte}
-use borrow.Author.Rules.{rules}
 use Rattle.heads.proofs.few_at.Goals as goal
 
 pub returns-then-n-ge1 : goal.returns-then-n-ge1

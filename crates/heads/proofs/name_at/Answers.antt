@@ -1,8 +1,6 @@
-use mathlib.Core.Path.{◌≡◌, refl, sym, ap, ◌∙◌}
-use native.Mathlib.Omega.{arith}
+use Rattle.std.proofs.Common.{◌≡◌, ◌∙◌, refl, sym, ap, arith, rules}
 use Rattle.heads.specs.Reads.{name_below, name-past}
 use Rattle.heads.specs.Heads.{name_at, on_word}
-use borrow.Author.Rules.{rules}
 use Rattle.heads.proofs.name_at.Goals as goal
 
 pub returns-then-n-names : goal.returns-then-n-names

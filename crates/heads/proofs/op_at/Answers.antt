@@ -1,8 +1,5 @@
-use mathlib.Core.Path.{◌≡◌, refl, sym, ap, ◌∙◌}
-use native.Mathlib.Omega.{arith}
-use borrow.Author.Tests.{le-ltb, lt-ltb}
+use Rattle.std.proofs.Common.{◌≡◌, ◌∙◌, refl, sym, ap, arith, le-ltb, lt-ltb, rules}
 use Rattle.heads.specs.Heads.{op_at, on_byte}
-use borrow.Author.Rules.{rules}
 use Rattle.heads.proofs.op_at.Goals as goal
 
 pub returns-then-o-limit : goal.returns-then-o-limit

@@ -1,10 +1,7 @@
-use borrow.Author.Tests.{ne_eqb}
-use mathlib.Core.Path.{◌≡◌, refl, sym, ap, ◌∙◌}
-use native.Mathlib.Omega.{arith}
+use Rattle.std.proofs.Common.{ne_eqb, sym, ap, arith, rules, ◌≡◌, ◌∙◌, refl}
 use Rattle.heads.specs.Counts.{relations, least_joined, least_listed}
 use Rattle.heads.specs.Reads.{op_as, count_as}
 use Rattle.heads.specs.Heads.{pred_body, on_byte, on_word}
-use borrow.Author.Rules.{rules}
 use Rattle.heads.proofs.pred_body.Goals as goal
 
 pub returns-in-32 : goal.returns-in-32

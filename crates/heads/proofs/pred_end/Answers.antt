@@ -1,6 +1,5 @@
-use mathlib.Core.Path.{◌≡◌, refl, sym, ap, ◌∙◌}
+use Rattle.std.proofs.Common.{◌≡◌, ◌∙◌, refl, sym, ap, rules}
 use Rattle.heads.specs.Heads.{pred_end}
-use borrow.Author.Rules.{rules}
 use Rattle.heads.proofs.pred_end.Goals as goal
 
 pub returns-in-Constant : goal.returns-in-Constant

@@ -1,7 +1,5 @@
-use mathlib.Core.Path.{◌≡◌, refl, sym, ap, ◌∙◌}
-use native.Mathlib.Omega.{arith}
+use Rattle.std.proofs.Common.{◌≡◌, ◌∙◌, refl, sym, ap, arith, rules}
 use Rattle.heads.specs.Heads.{pred_head, on_byte}
-use borrow.Author.Rules.{rules}
 use Rattle.heads.proofs.pred_head.Goals as goal
 
 pub returns-in-Missing : goal.returns-in-Missing

@@ -1,7 +1,5 @@
-use mathlib.Core.Path.{◌≡◌, refl, sym, ap, ◌∙◌}
-use native.Mathlib.Omega.{arith}
+use Rattle.std.proofs.Common.{◌≡◌, ◌∙◌, refl, sym, ap, arith, rules}
 use Rattle.heads.specs.Reads.{root-missing, root-expression, root-predicate, root_assignment}
-use borrow.Author.Rules.{rules}
 use Rattle.heads.proofs.root_head.Goals as goal
 
 pub returns-then-k-lt32 : goal.returns-then-k-lt32

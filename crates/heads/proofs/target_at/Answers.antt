@@ -1,8 +1,5 @@
-use mathlib.Core.Path.{◌≡◌, refl, sym, ap, ◌∙◌}
-use native.Mathlib.Omega.{arith}
-use borrow.Author.Tests.{eq-eqb, ne_eqb}
+use Rattle.std.proofs.Common.{◌≡◌, ◌∙◌, refl, sym, ap, arith, rules, eq-eqb, ne_eqb}
 use Rattle.heads.specs.Heads.{target_at, on_byte}
-use borrow.Author.Rules.{rules}
 use Rattle.heads.proofs.target_at.Goals as goal
 
 pub returns-then-k-eq1 : goal.returns-then-k-eq1

@@ -1,11 +1,8 @@
-use mathlib.Core.Path.{sym, ◌∙◌, ap}
-use native.Mathlib.Omega.{arith}
-use borrow.Author.Rules.{rules}
+use Rattle.std.proofs.Common.{sym, ap, arith, rules, ℕ, ◌<◌, ◌∙◌}
 use Rattle.types.specs.Code.{head_is}
 use Rattle.unification.specs.Lift.{lift_by, lift-none, lift-head, power-done, power-stop, left-stop, right-done, right-stop, lift-small}
 use Rattle.lift.specs.Answers.{raised}
 use Rattle.lift.proofs.Laws.{crown-raised}
-use Prim.Native.Nat.{ℕ, ◌<◌}
 use Rattle.lift.proofs.+lift.Goals as goal
 
 pub returns-then-left-eq0 : goal.returns-then-left-eq0

@@ -1,8 +1,7 @@
-use mathlib.Core.Path.{sym, ◌∙◌, ap}
+use Rattle.std.proofs.Common.{sym, ap, rules, ◌∙◌}
 use Rattle.types.specs.Code.{atom_is}
 use Rattle.unification.specs.Arena.{leaf}
 use Rattle.unification.specs.Make.{build}
-use borrow.Author.Rules.{rules}
 use Rattle.lift.proofs.atom.Goals as goal
 
 pub returns-in-Bool : goal.returns-in-Bool

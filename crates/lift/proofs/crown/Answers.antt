@@ -1,5 +1,5 @@
 use Rattle.lift.specs.Answers.{crowned}
-use borrow.Author.Rules.{rules}
+use Rattle.std.proofs.Common.{rules}
 use Rattle.lift.proofs.crown.Goals as goal
 
 pub returns-in-At : goal.returns-in-At

@@ -1,11 +1,8 @@
-use mathlib.Core.Path.{refl, sym, ap, ◌∙◌}
-use native.Mathlib.Omega.{arith}
+use Rattle.std.proofs.Common.{refl, sym, ap, arith, rules, ℕ, ◌<◌, ◌∙◌}
 use Rattle.types.specs.Code.{head_is}
 use Rattle.forms.specs.Forms.{step, yes_eq, no_eq}
 use Rattle.machine.specs.Types.{notes_by}
 use Rattle.machine.proofs.Laws.{by-notes}
-use borrow.Author.Rules.{rules}
-use Prim.Native.Nat.{ℕ, ◌<◌}
 use Rattle.machine.proofs.+note_spelled_givens.Goals as goal
 
 pub returns-then-st-ne0 : goal.returns-then-st-ne0

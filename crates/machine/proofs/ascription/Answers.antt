@@ -1,8 +1,6 @@
-use mathlib.Core.Path.{refl, sym, ◌∙◌}
-use native.Mathlib.Omega.{arith}
+use Rattle.std.proofs.Common.{refl, sym, arith, rules, ◌∙◌}
 use Rattle.forms.specs.Forms.{step, yes_eq, no_eq}
 use Rattle.machine.specs.Types.{ascription_by, ascription_of}
-use borrow.Author.Rules.{rules}
 use Rattle.machine.proofs.ascription.Goals as goal
 
 pub shape_of-output-then-k-eq79 : goal.shape_of-output-then-k-eq79

@@ -1,5 +1,5 @@
 use Rattle.machine.proofs.Laws.{atom-bool, atom-int, atom-given}
-use borrow.Author.Rules.{rules}
+use Rattle.std.proofs.Common.{rules}
 use Rattle.machine.proofs.atom.Goals as goal
 
 pub returns-in-Bool : goal.returns-in-Bool

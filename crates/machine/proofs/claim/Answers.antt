@@ -1,9 +1,7 @@
-use mathlib.Core.Path.{refl, sym, ◌∙◌}
-use native.Mathlib.Omega.{arith}
+use Rattle.std.proofs.Common.{refl, sym, arith, rules, ◌∙◌}
 use Rattle.forms.specs.Forms.{step, yes_eq, no_eq}
 use Rattle.machine.specs.Types.{annotation_by}
 use Rattle.machine.proofs.Laws.{claim-plain, claim-typed, claim-annotated}
-use borrow.Author.Rules.{rules}
 use Rattle.machine.proofs.claim.Goals as goal
 
 pub returns-then-k-eq79 : goal.returns-then-k-eq79

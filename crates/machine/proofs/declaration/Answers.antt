@@ -1,8 +1,6 @@
-use mathlib.Core.Path.{refl, sym, ◌∙◌}
-use native.Mathlib.Omega.{arith}
+use Rattle.std.proofs.Common.{refl, sym, arith, rules, ◌∙◌}
 use Rattle.forms.specs.Forms.{step}
 use Rattle.machine.specs.Types.{declaration_by, declaration_of}
-use borrow.Author.Rules.{rules}
 use Rattle.machine.proofs.declaration.Goals as goal
 
 pub returns-in-Wrong : goal.returns-in-Wrong

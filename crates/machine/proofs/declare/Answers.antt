@@ -1,12 +1,8 @@
-use mathlib.Core.Path.{◌≡◌}
-use lib.ListN.{length}
+use Rattle.std.proofs.Common.{◌≡◌, ◌∙◌, length, refl, sym, ap, arith, rules}
 use Rattle.machine.specs.Machine.{mach}
 use Rattle.machine.specs.Types.{declaration_of, times_of}
 use Rattle.machine.proofs.Laws.{by-times, times_none}
-use mathlib.Core.Path.{refl, sym, ap, ◌∙◌}
-use native.Mathlib.Omega.{arith}
 use Rattle.forms.specs.Forms.{test, then, step, yes_if, no_if, yes_eq, no_eq, yes_lt, no_lt, yes_le, no_le}
-use borrow.Author.Rules.{rules}
 use Rattle.machine.proofs.declare.Goals as goal
 
 pub loop-i-init : goal.loop-i-init

@@ -1,7 +1,6 @@
-use native.Mathlib.Omega.{arith}
+use Rattle.std.proofs.Common.{arith, rules}
 use Rattle.forms.specs.Forms.{step}
 use Rattle.machine.specs.Types.{declaration_by}
-use borrow.Author.Rules.{rules}
 use Rattle.machine.proofs.declared.Goals as goal
 
 pub shape_of-work : goal.shape_of-work

@@ -1,12 +1,9 @@
-use mathlib.Core.Path.{◌≡◌, refl, sym, ap, ◌∙◌}
-use native.Mathlib.Omega.{arith}
+use Rattle.std.proofs.Common.{◌≡◌, ◌∙◌, refl, take, sym, ap, arith, rules}
 use Rattle.forms.specs.Forms.{test, then, step, yes_if, no_if, yes_eq, no_eq, yes_lt, no_lt, yes_le, no_le}
 use Rattle.machine.specs.Machine.{expect_of}
-use lib.ListN.{take}
 use Rattle.unifier.specs.declared.Unified.{Unified}
 use Rattle.unifier.specs.Answers.{settled}
 use Rattle.machine.proofs.Laws.{settled-done, settled_mismatch, settled_circular, settled-spent, settled_broken}
-use borrow.Author.Rules.{rules}
 use Rattle.machine.proofs.expect.Goals as goal
 
 pub returns-then-st-ne0 : goal.returns-then-st-ne0

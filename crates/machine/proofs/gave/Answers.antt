@@ -1,8 +1,6 @@
-use mathlib.Core.Path.{refl, sym, ap, ◌∙◌}
-use native.Mathlib.Omega.{arith}
+use Rattle.std.proofs.Common.{refl, sym, ap, arith, rules, ◌∙◌}
 use Rattle.forms.specs.Forms.{test, then, step, yes_if, no_if, yes_eq, no_eq, yes_lt, no_lt, yes_le, no_le}
 use Rattle.machine.specs.Machine.{gave_of}
-use borrow.Author.Rules.{rules}
 use Rattle.machine.proofs.gave.Goals as goal
 
 pub returns-then-st-ne0 : goal.returns-then-st-ne0

@@ -1,12 +1,9 @@
-use mathlib.Core.Path.{◌≡◌, refl, sym, ap, ◌∙◌}
-use native.Mathlib.Omega.{arith}
+use Rattle.std.proofs.Common.{◌≡◌, ◌∙◌, refl, take, sym, ap, arith, rules}
 use Rattle.forms.specs.Forms.{test, then, step, yes_if, no_if, yes_eq, no_eq, yes_lt, no_lt, yes_le, no_le}
 use Rattle.machine.specs.Machine.{make_of}
-use lib.ListN.{take}
 use Rattle.makers.specs.declared.Made.{Made}
 use Rattle.makers.specs.Answers.{made}
 use Rattle.machine.proofs.Laws.{made_at, made_full, made_broken}
-use borrow.Author.Rules.{rules}
 use Rattle.machine.proofs.make.Goals as goal
 
 pub returns-then-st-ne0 : goal.returns-then-st-ne0

@@ -1,7 +1,5 @@
-use mathlib.Core.Path.{refl}
-use native.Mathlib.Omega.{arith}
+use Rattle.std.proofs.Common.{refl, arith, rules}
 use Rattle.machine.proofs.Laws.{noted-bool, noted-int, noted-given}
-use borrow.Author.Rules.{rules}
 use Rattle.machine.proofs.noted.Goals as goal
 
 pub returns-in-Bool : goal.returns-in-Bool

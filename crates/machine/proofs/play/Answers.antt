@@ -1,12 +1,8 @@
-use Prim.Native.Nat.{ℕ, ◌-◌}
-use native.Mathlib.Omega.{arith}
-use mathlib.Core.Path.{◌≡◌, refl, sym, ◌∙◌}
-use lib.ListN.{length}
+use Rattle.std.proofs.Common.{ℕ, ◌-◌, arith, sym, rules, ◌≡◌, ◌∙◌, refl, length}
 use Rattle.forms.specs.Forms.{step}
 use Rattle.machine.specs.Machine.{mach}
 use Rattle.machine.specs.Scripts.{items_of, play_of}
 use Rattle.machine.proofs.Laws.{items_more, items-none}
-use borrow.Author.Rules.{rules}
 use Rattle.machine.proofs.play.Goals as goal
 
 pub loop-i-init : goal.loop-i-init

@@ -1,13 +1,9 @@
-use mathlib.Core.Path.{◌≡◌, refl, sym, ap, ◌∙◌}
-use native.Mathlib.Omega.{arith}
+use Rattle.std.proofs.Common.{◌≡◌, ◌∙◌, refl, ℕ, sym, ap, arith, length-take-le, rules}
 use Rattle.forms.specs.Forms.{test, then, step, yes_if, no_if, yes_eq, no_eq, yes_lt, no_lt, yes_le, no_le}
-use Prim.Native.Nat.{ℕ}
 use Rattle.unification.specs.Arena.{decode}
 use Rattle.unification.specs.Make.{builds_no_other}
 use Rattle.makers.specs.Answers.{made}
 use Rattle.machine.proofs.Laws.{lent, lent_push}
-use lib.Seq.{length-take-le}
-use borrow.Author.Rules.{rules}
 use Rattle.machine.proofs.push.Goals as goal
 
 pub slice_bounds-fresh-end-in-78 : goal.slice_bounds-fresh-end-in-78

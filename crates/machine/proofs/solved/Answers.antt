@@ -1,13 +1,7 @@
-use mathlib.Core.Path.{◌≡◌, refl, sym, ap, ◌∙◌}
-use native.Mathlib.Omega.{arith}
+use Rattle.std.proofs.Common.{◌≡◌, ◌∙◌, refl, ℕ, List, take, sym, ap, arith, length-take-le, rules}
 use Rattle.forms.specs.Forms.{test, then, step, yes_if, no_if, yes_eq, no_eq, yes_lt, no_lt, yes_le, no_le}
-use Prim.Native.Nat.{ℕ}
-use mathlib.Core.List.{List}
-use lib.ListN.{take}
 use Rattle.unification.specs.Arena.{solved}
 use Rattle.machine.proofs.Laws.{lent}
-use lib.Seq.{length-take-le}
-use borrow.Author.Rules.{rules}
 use Rattle.machine.proofs.solved.Goals as goal
 
 pub slice_bounds-solved-end : goal.slice_bounds-solved-end

@@ -1,9 +1,6 @@
-use mathlib.Core.Path.{◌≡◌, refl, sym, ap, ◌∙◌}
-use native.Mathlib.Omega.{arith}
+use Rattle.std.proofs.Common.{◌≡◌, ◌∙◌, refl, sym, ap, arith, length-take-le, rules}
 use Rattle.forms.specs.Forms.{test, then, step, yes_if, no_if, yes_eq, no_eq, yes_lt, no_lt, yes_le, no_le}
 use Rattle.machine.proofs.Laws.{lent, lent-unify}
-use lib.Seq.{length-take-le}
-use borrow.Author.Rules.{rules}
 use Rattle.machine.proofs.unified.Goals as goal
 
 pub slice_bounds-unify-end-2 : goal.slice_bounds-unify-end-2

@@ -1,5 +1,5 @@
 use Rattle.unification.specs.Make.{build}
-use borrow.Author.Rules.{rules}
+use Rattle.std.proofs.Common.{rules}
 use Rattle.makers.proofs.fresh.Goals as goal
 
 pub returns : goal.returns

@@ -1,9 +1,7 @@
-use mathlib.Core.Path.{sym, ◌∙◌}
-use borrow.Author.Tests.{lt-ltb, le-ltb}
+use Rattle.std.proofs.Common.{sym, lt-ltb, le-ltb, rules, ◌∙◌}
 use Rattle.unification.specs.Arena.{choose}
 use Rattle.unification.specs.Make.{build, build-power}
 use Rattle.makers.specs.Answers.{made}
-use borrow.Author.Rules.{rules}
 use Rattle.makers.proofs.pow.Goals as goal
 
 pub returns-then-base-count : goal.returns-then-base-count

@@ -1,10 +1,7 @@
-use mathlib.Core.Path.{sym}
-use lib.ListN.{length-set}
-use native.Mathlib.Omega.{arith}
+use Rattle.std.proofs.Common.{sym, length-set, arith, rules}
 use Rattle.unification.specs.Good.{push_at}
 use Rattle.unification.specs.Make.{make-done, make_full, make-past, make-last}
 use Rattle.makers.specs.Answers.{made}
-use borrow.Author.Rules.{rules}
 use Rattle.makers.proofs.push.Goals as goal
 
 pub returns-then-words-at : goal.returns-then-words-at

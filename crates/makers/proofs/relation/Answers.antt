@@ -1,8 +1,6 @@
-use mathlib.Core.Path.{sym, ◌∙◌, ap}
-use native.Mathlib.Omega.{arith}
+use Rattle.std.proofs.Common.{sym, ap, arith, rules, ◌∙◌}
 use Rattle.unification.specs.Make.{relate-done, relate-stop, build-small}
 use Rattle.makers.specs.Answers.{made}
-use borrow.Author.Rules.{rules}
 use Rattle.makers.proofs.relation.Goals as goal
 
 pub overflow_add-t : goal.overflow_add-t

@@ -1,8 +1,4 @@
-use borrow.Author.Rules.{rules}
-use native.Mathlib.Omega.{arith}
-use mathlib.Core.Path.{◌≡◌, refl, sym, ◌∙◌, ap}
-use Prim.Native.Nat.{◌-◌, ◌≤◌}
-use lib.ListN.{length, length-set}
+use Rattle.std.proofs.Common.{rules, arith, sym, ap, length-set, ◌-◌, ◌≤◌, ◌≡◌, ◌∙◌, refl, length}
 use Rattle.memory.specs.Memory.{zeroed, zero_more, zero-end, zero-cleared}
 use Rattle.memory.proofs.clear_words.Goals as goal
 

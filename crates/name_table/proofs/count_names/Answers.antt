@@ -1,6 +1,5 @@
 -- `count_names`: i names lie before the place reached.
-use borrow.Author.Rules.{rules}
-use Prim.Native.Nat.{◌-◌}
+use Rattle.std.proofs.Common.{rules, ◌-◌}
 use Rattle.name_table.specs.Steps.{Counted, counted_start, counted-over, counted-out, counted-on}
 use Rattle.name_table.proofs.count_names.Goals as goal
 

@@ -1,9 +1,5 @@
-use borrow.Author.Rules.{rules}
-use native.Mathlib.Omega.{arith}
+use Rattle.std.proofs.Common.{rules, arith, sym, ◌≤◌, ◌-◌, ◌≡◌, ◌∙◌, refl, length, drop}
 use Rattle.name_table.specs.Steps.{find-start, find-over, find-out, find_hit, find_miss}
-use mathlib.Core.Path.{◌≡◌, refl, sym, ◌∙◌}
-use Prim.Native.Nat.{◌≤◌, ◌-◌}
-use lib.ListN.{length, drop}
 use Rattle.name_table.specs.Table.{find, names, names_of, shift}
 use Rattle.name_table.proofs.find_name.Given as goal
 

@@ -1,8 +1,6 @@
 -- `is_letter` is the test of the definition, range by range.
-use borrow.Author.Rules.{rules}
-use native.Mathlib.Omega.{arith}
+use Rattle.std.proofs.Common.{rules, arith, sym}
 use Rattle.name_table.specs.Steps.{letter-low, letter_upper, letter_middle, letter_high}
-use mathlib.Core.Path.{sym}
 use Rattle.name_table.proofs.is_letter.Goals as goal
 
 pub returns-then-c-lt65 : goal.returns-then-c-lt65

@@ -1,13 +1,7 @@
 -- `is_word`: up to i every byte is a word's, so the word is good exactly if the rest is.
-use borrow.Author.Rules.{rules}
-use native.Mathlib.Omega.{arith}
+use Rattle.std.proofs.Common.{rules, arith, sym, ap, ◌≤◌, ◌-◌, ◌≡◌, ◌∙◌, length, drop, not}
 use Rattle.name_table.specs.Steps.{is-word-none, is-word-bad, is-word-start, is-word-stop, is-word-on, is-word-end}
-use mathlib.Core.Path.{◌≡◌, sym, ◌∙◌}
-use Prim.Native.Nat.{◌≤◌, ◌-◌}
-use lib.ListN.{length, drop}
 use Rattle.name_table.specs.Words.{is_word, all_word}
-use mathlib.Core.Bool.{not}
-use mathlib.Core.Path.{ap}
 use Rattle.name_table.proofs.is_word.Goals as goal
 
 pub returns-then-w-eq0 : goal.returns-then-w-eq0

@@ -1,9 +1,5 @@
-use borrow.Author.Rules.{rules}
-use native.Mathlib.Omega.{arith}
+use Rattle.std.proofs.Common.{rules, arith, sym, ◌≤◌, ◌-◌, ◌≡◌, ◌∙◌, length, drop}
 use Rattle.name_table.specs.Steps.{is-word-none, is-word-bad, is-word-start, is-word-stop, is-word-on, is-word-end}
-use mathlib.Core.Path.{◌≡◌, sym, ◌∙◌}
-use Prim.Native.Nat.{◌≤◌, ◌-◌}
-use lib.ListN.{length, drop}
 use Rattle.name_table.specs.Words.{is_word, all_word}
 use Rattle.name_table.proofs.is_word.Given as goal
 

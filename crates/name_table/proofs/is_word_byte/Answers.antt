@@ -1,8 +1,6 @@
 -- `is_word_byte` is the test of the definition, range by range.
-use native.Mathlib.Omega.{arith}
+use Rattle.std.proofs.Common.{arith, sym, rules, ◌∙◌}
 use Rattle.name_table.specs.Steps.{word-letter, word_low, word_digit, word_high}
-use mathlib.Core.Path.{sym, ◌∙◌}
-use borrow.Author.Rules.{rules}
 use Rattle.name_table.proofs.is_word_byte.Goals as goal
 
 pub returns-then-is_letter : goal.returns-then-is_letter

@@ -1,7 +1,5 @@
-use borrow.Author.Rules.{rules}
-use native.Mathlib.Omega.{arith}
+use Rattle.std.proofs.Common.{rules, arith, ◌-◌}
 use Rattle.name_table.specs.Steps.{Left, left-start, left_over, left_out, left_hit, left_miss}
-use Prim.Native.Nat.{◌-◌}
 use Rattle.name_table.proofs.name_at.Given as goal
 
 abbrev pub invariant-loop-i : goal.invariant-loop-i

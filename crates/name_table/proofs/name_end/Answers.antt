@@ -1,7 +1,6 @@
 -- `name_end` ends a record where its kind says, and a cut one at the table's end.
-use native.Mathlib.Omega.{arith}
+use Rattle.std.proofs.Common.{arith, rules}
 use Rattle.name_table.specs.Steps.{name-end-none, name-end-inside, name-end_cut}
-use borrow.Author.Rules.{rules}
 use Rattle.name_table.proofs.name_end.Goals as goal
 
 pub returns-then-k-lt128 : goal.returns-then-k-lt128

@@ -1,9 +1,6 @@
 -- `name_is_good` tests the three rules in their order.
-use native.Mathlib.Omega.{arith}
+use Rattle.std.proofs.Common.{arith, rules, ap, not}
 use Rattle.name_table.specs.Steps.{name_no_word, name_reserved, name-found, name-lost}
-use borrow.Author.Rules.{rules}
-use mathlib.Core.Bool.{not}
-use mathlib.Core.Path.{ap}
 use Rattle.name_table.proofs.name_is_good.Goals as goal
 
 pub returns-then-not-is_word : goal.returns-then-not-is_word

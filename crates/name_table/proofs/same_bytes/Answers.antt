@@ -1,10 +1,6 @@
 -- `same_bytes`: up to i the bytes agree, so the two are the same exactly if their rests are.
-use borrow.Author.Rules.{rules}
-use native.Mathlib.Omega.{arith}
+use Rattle.std.proofs.Common.{rules, arith, sym, ◌≤◌, ◌-◌, ◌≡◌, ◌∙◌, refl, length, drop}
 use Rattle.name_table.specs.Steps.{same-differ, same-on, same-short, same_end}
-use mathlib.Core.Path.{◌≡◌, refl, sym, ◌∙◌}
-use Prim.Native.Nat.{◌≤◌, ◌-◌}
-use lib.ListN.{length, drop}
 use Rattle.name_table.specs.Words.{same}
 use Rattle.name_table.proofs.same_bytes.Goals as goal
 

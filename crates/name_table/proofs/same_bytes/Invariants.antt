@@ -1,9 +1,5 @@
-use borrow.Author.Rules.{rules}
-use native.Mathlib.Omega.{arith}
+use Rattle.std.proofs.Common.{rules, arith, sym, ◌≤◌, ◌-◌, ◌≡◌, ◌∙◌, refl, length, drop}
 use Rattle.name_table.specs.Steps.{same-differ, same-on, same-short, same_end}
-use mathlib.Core.Path.{◌≡◌, refl, sym, ◌∙◌}
-use Prim.Native.Nat.{◌≤◌, ◌-◌}
-use lib.ListN.{length, drop}
 use Rattle.name_table.specs.Words.{same}
 use Rattle.name_table.proofs.same_bytes.Given as goal
 

@@ -1,8 +1,7 @@
-use mathlib.Core.Path.{refl}
+use Rattle.std.proofs.Common.{refl, rules}
 use Rattle.forms.specs.Forms.{yes_lt, no_lt}
 use Rattle.operators.specs.Tables.{deeds_t, lefts_t, rights_t, places_t}
 use Rattle.operators.specs.Operators.{item_at}
-use borrow.Author.Rules.{rules}
 use Rattle.operators.proofs.item_at.Goals as goal
 
 pub returns-then-i-lt177 : goal.returns-then-i-lt177

@@ -1,8 +1,7 @@
-use mathlib.Core.Path.{refl}
+use Rattle.std.proofs.Common.{refl, rules}
 use Rattle.forms.specs.Forms.{yes_lt, no_lt}
 use Rattle.operators.specs.Tables.{starts_t, gives_t}
 use Rattle.operators.specs.Operators.{script_at}
-use borrow.Author.Rules.{rules}
 use Rattle.operators.proofs.script_at.Goals as goal
 
 pub returns-then-i-lt43 : goal.returns-then-i-lt43

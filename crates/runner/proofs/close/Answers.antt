@@ -1,5 +1,5 @@
 use Rattle.runner.proofs.Laws.{closes}
-use borrow.Author.Rules.{rules}
+use Rattle.std.proofs.Common.{rules}
 use Rattle.runner.proofs.close.Goals as goal
 
 pub returns : goal.returns

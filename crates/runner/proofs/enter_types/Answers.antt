@@ -1,9 +1,4 @@
-use borrow.Author.Rules.{rules}
-use native.Mathlib.Omega.{arith}
-use mathlib.Core.Path.{◌≡◌, refl, sym, ap, ◌∙◌}
-use mathlib.Core.List.{List}
-use Prim.Native.Nat.{ℕ, ◌-◌, ◌≤◌, ◌+◌}
-use lib.ListN.{length}
+use Rattle.std.proofs.Common.{rules, arith, sym, ap, ℕ, ◌-◌, ◌≤◌, ◌+◌, ◌≡◌, ◌∙◌, refl, List, length}
 use Rattle.machine.specs.declared.State.{State}
 use Rattle.machine.specs.Machine.{Mach, mach}
 use Rattle.runner.specs.Begin.{entered_from}

@@ -1,10 +1,7 @@
 use Rattle.runner.proofs.Laws.{no_capacity, great_capacity, by-work}
-use mathlib.Core.Path.{◌≡◌, refl, sym, ap, ◌∙◌}
-use native.Mathlib.Omega.{arith}
-use borrow.Author.Tests.{lt-ltb, le-ltb, le-leb, lt-leb, eq-eqb, ne_eqb}
-use borrow.Author.Rules.{rules}
+use Rattle.std.proofs.Common.{◌≡◌, ◌∙◌, refl, sym, ap, arith, rules, lt-ltb, le-ltb, le-leb, eq-eqb, ne_eqb}
+use borrow.Author.Tests.{lt-leb}
 use Rattle.inference.specs.Infer.{sized}
-use borrow.Author.Rules.{rules}
 use Rattle.runner.proofs.fits.Goals as goal
 
 pub returns-then-formula-gt-MAX_BYTES : goal.returns-then-formula-gt-MAX_BYTES

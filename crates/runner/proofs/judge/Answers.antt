@@ -1,8 +1,7 @@
 use Rattle.runner.proofs.Laws.{same-judged}
-use mathlib.Core.Path.{◌≡◌, refl, sym, ap, ◌∙◌}
+use Rattle.std.proofs.Common.{◌≡◌, ◌∙◌, refl, sym, ap, rules}
 use Rattle.forms.specs.Forms.{yes_eq, no_eq, yes_if, no_if, step}
 use Rattle.runner.specs.Run.{judge_of}
-use borrow.Author.Rules.{rules}
 use Rattle.runner.proofs.judge.Goals as goal
 
 pub returns-then-st-ne0 : goal.returns-then-st-ne0

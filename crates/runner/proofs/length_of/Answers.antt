@@ -1,10 +1,7 @@
 use Rattle.runner.specs.declared.Answer.{Answer}
 use Rattle.runner.proofs.Laws.{refusal-size}
-use mathlib.Core.Path.{◌≡◌, refl, sym, ap, ◌∙◌}
-use native.Mathlib.Omega.{arith}
-use borrow.Author.Rules.{rules}
+use Rattle.std.proofs.Common.{◌≡◌, ◌∙◌, refl, sym, ap, arith, rules}
 use Rattle.runner.specs.Answers.{told}
-use borrow.Author.Rules.{rules}
 use borrow.Enum.Refused.{opened}
 use Rattle.runner.proofs.length_of.Goals as goal
 

@@ -1,8 +1,5 @@
 use Rattle.runner.proofs.Laws.{blames_environment, blames_formula, blames_beyond}
-use mathlib.Core.Path.{◌≡◌, refl, sym, ap, ◌∙◌}
-use native.Mathlib.Omega.{arith}
-use borrow.Author.Rules.{rules}
-use borrow.Author.Rules.{rules}
+use Rattle.std.proofs.Common.{◌≡◌, ◌∙◌, refl, sym, ap, arith, rules}
 use Rattle.runner.proofs.refusal.Goals as goal
 
 pub returns-then-environment : goal.returns-then-environment

@@ -1,11 +1,8 @@
 use Rattle.runner.proofs.Laws.{same_typed, same-problems}
-use mathlib.Core.Path.{◌≡◌, refl, sym, ap, ◌∙◌}
-use native.Mathlib.Omega.{arith}
-use borrow.Author.Tests.{lt-ltb, le-ltb, le-leb, lt-leb, eq-eqb, ne_eqb}
-use borrow.Author.Rules.{rules}
+use Rattle.std.proofs.Common.{◌≡◌, ◌∙◌, refl, sym, ap, arith, rules, lt-ltb, le-ltb, le-leb, eq-eqb, ne_eqb}
+use borrow.Author.Tests.{lt-leb}
 use Rattle.forms.specs.Forms.{yes_eq, no_eq, yes_if, no_if}
 use Rattle.runner.specs.Run.{verdict_of}
-use borrow.Author.Rules.{rules}
 use Rattle.runner.proofs.verdict.Goals as goal
 
 pub returns-then-st-eq6 : goal.returns-then-st-eq6

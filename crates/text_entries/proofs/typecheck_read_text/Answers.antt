@@ -1,7 +1,6 @@
 -- `typecheck_read_text` tells the answer of `type_text::read` by its number, place and length.
-use mathlib.Core.Path.{ap, ◌∙◌}
+use Rattle.std.proofs.Common.{ap, rules, ◌∙◌}
 use Rattle.type_text.specs.Answer.{number_of, place_of, length_of}
-use borrow.Author.Rules.{rules}
 use Rattle.text_entries.proofs.typecheck_read_text.Goals as goal
 
 pub returns : goal.returns

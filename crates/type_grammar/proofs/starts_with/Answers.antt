@@ -1,10 +1,6 @@
 -- `starts_with`: the first i bytes of the sign stand there, so the text goes on with the sign exactly if the rest does.
-use borrow.Author.Rules.{rules}
-use native.Mathlib.Omega.{arith}
+use Rattle.std.proofs.Common.{rules, arith, ◌+◌, ◌-◌, ◌≡◌, length, drop}
 use Rattle.type_grammar.specs.Steps.{starts_begin, starts-end, starts-short, starts-differ, starts-on}
-use mathlib.Core.Path.{◌≡◌}
-use Prim.Native.Nat.{◌+◌, ◌-◌}
-use lib.ListN.{length, drop}
 use Rattle.type_grammar.specs.Token.{starts}
 use Rattle.type_grammar.proofs.starts_with.Goals as goal
 

@@ -1,8 +1,7 @@
 -- `token_at` tries a word, then each sign in the definition's order.
-use native.Mathlib.Omega.{arith}
+use Rattle.std.proofs.Common.{arith, rules}
 use Rattle.type_grammar.specs.Steps.{token_none, token_word, token_integer, token_power, token_open, token_close, token_times, token_wrong}
 use Rattle.name_table.specs.Table.{names}
-use borrow.Author.Rules.{rules}
 use Rattle.type_grammar.proofs.token_at.Goals as goal
 
 pub returns-then-at-text : goal.returns-then-at-text

@@ -1,8 +1,5 @@
-use borrow.Author.Rules.{rules}
-use native.Mathlib.Omega.{arith}
+use Rattle.std.proofs.Common.{rules, arith, ◌-◌, length}
 use Rattle.type_grammar.specs.Steps.{WordSo, word_begin, word_over, word-stop, word_on}
-use Prim.Native.Nat.{◌-◌}
-use lib.ListN.{length}
 use Rattle.type_grammar.proofs.word_end.Given as goal
 
 abbrev pub invariant-loop-e : goal.invariant-loop-e

@@ -1,7 +1,6 @@
 -- `word_token` asks for BOOL first, then for a name of the table.
-use native.Mathlib.Omega.{arith}
+use Rattle.std.proofs.Common.{arith, rules}
 use Rattle.type_grammar.specs.Steps.{word-bool, word-found, word-lost}
-use borrow.Author.Rules.{rules}
 use Rattle.type_grammar.proofs.word_token.Goals as goal
 
 pub returns-then-same_bytes : goal.returns-then-same_bytes

@@ -1,9 +1,6 @@
 -- `read` meets each refusal in its order, and writes only once everything is known to fit.
-use native.Mathlib.Omega.{arith}
+use Rattle.std.proofs.Common.{arith, rules, ap, not}
 use Rattle.type_text.specs.Read.{read_table, read-stop, read-left-over, read-deep, read_no_room, read-ready, read_done}
-use borrow.Author.Rules.{rules}
-use mathlib.Core.Bool.{not}
-use mathlib.Core.Path.{ap}
 use Rattle.type_text.proofs.read.Goals as goal
 
 pub returns-then-not-table_is_good : goal.returns-then-not-table_is_good

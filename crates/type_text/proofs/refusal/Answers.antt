@@ -1,7 +1,6 @@
 -- `refusal` follows its definition, case by case.
-use mathlib.Core.Path.{sym}
+use Rattle.std.proofs.Common.{sym, rules}
 use Rattle.type_text.specs.Answer.{answer_of}
-use borrow.Author.Rules.{rules}
 use Rattle.type_text.proofs.refusal.Goals as goal
 
 pub returns-in-Malformed : goal.returns-in-Malformed

@@ -1,9 +1,6 @@
 -- `write` meets each refusal in its order, and writes only once everything is known to fit.
-use native.Mathlib.Omega.{arith}
+use Rattle.std.proofs.Common.{arith, rules, ap, not}
 use Rattle.type_text.specs.Write.{write_table, write_position, write_fault, write_left-over, write_no_room, write_ready, write_done}
-use borrow.Author.Rules.{rules}
-use mathlib.Core.Bool.{not}
-use mathlib.Core.Path.{ap}
 use Rattle.type_text.proofs.write.Goals as goal
 
 pub returns-then-not-table_is_good : goal.returns-then-not-table_is_good

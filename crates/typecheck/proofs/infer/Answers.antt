@@ -1,6 +1,4 @@
-use mathlib.Core.Path.{◌≡◌, refl, sym, ap, ◌∙◌}
-use native.Mathlib.Omega.{arith}
-use borrow.Author.Rules.{rules}
+use Rattle.std.proofs.Common.{◌≡◌, ◌∙◌, refl, sym, ap, arith, rules}
 use Rattle.assembly.specs.Entry.{oversized_call}
 use Rattle.inference.specs.Sizes.{sized-holds}
 use Rattle.typecheck.proofs.Calls.{infer_long, infer_bad, infer_good}

@@ -1,7 +1,5 @@
-use mathlib.Core.Path.{◌≡◌, refl, sym, ap, ◌∙◌}
-use native.Mathlib.Omega.{arith}
+use Rattle.std.proofs.Common.{◌≡◌, ◌∙◌, refl, sym, ap, arith, rules}
 use Rattle.typecheck.proofs.Calls.{formula-long, formula-bad, formula-good}
-use borrow.Author.Rules.{rules}
 use Rattle.typecheck.proofs.infer_formula.Goals as goal
 
 pub returns-in-TooLong : goal.returns-in-TooLong

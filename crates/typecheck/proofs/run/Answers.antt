@@ -1,6 +1,5 @@
-use native.Mathlib.Omega.{arith}
+use Rattle.std.proofs.Common.{arith, rules}
 use Rattle.typecheck.proofs.Laws.{runs}
-use borrow.Author.Rules.{rules}
 use Rattle.typecheck.proofs.run.Goals as goal
 
 pub shape_of-work : goal.shape_of-work

@@ -1,4 +1,4 @@
-use mathlib.Core.Path.{refl}
+use Rattle.std.proofs.Common.{refl}
 use Rattle.forms.specs.Forms.{yes_lt, no_lt}
 use Rattle.machine.specs.Machine.{smaller}
 use Rattle.typecheck.proofs.shorter.Goals as goal

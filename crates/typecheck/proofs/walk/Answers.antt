@@ -1,8 +1,5 @@
-use mathlib.Core.Path.{sym}
-use lib.Seq.{length-take-le}
-use native.Mathlib.Omega.{arith}
+use Rattle.std.proofs.Common.{sym, length-take-le, arith, rules}
 use Rattle.typecheck.proofs.Laws.{smaller_le, lent-reach, lent-count, walks-lent}
-use borrow.Author.Rules.{rules}
 use Rattle.typecheck.proofs.walk.Goals as goal
 
 pub slice_bounds-run-end : goal.slice_bounds-run-end

@@ -1,8 +1,6 @@
 -- `end_at` follows `type_at` level by level; the levels left are the number that falls.
-use native.Mathlib.Omega.{arith}
-use borrow.Author.Rules.{rules}
+use Rattle.std.proofs.Common.{arith, rules, ℕ, ◌<◌}
 use Rattle.types.specs.Steps.{type-wrong, type-deep-atom, type-deep-power, type-deep-product, type-atom, type-power, type-product, atom-inside, power-inside, product_inside, end-got, end-malformed, end-deep, end-power, end-left-fault, end-left-deep, end-product}
-use Prim.Native.Nat.{ℕ, ◌<◌}
 use Rattle.types.proofs.+end_at.Goals as goal
 
 pub returns-then-left-eq0 : goal.returns-then-left-eq0

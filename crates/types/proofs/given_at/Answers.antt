@@ -1,8 +1,6 @@
 -- `given_at` answers the head of a given set's record: cut short, a name below the count, or a name that is not.
-use native.Mathlib.Omega.{arith}
-use Prim.Native.Nat.{◌+◌}
+use Rattle.std.proofs.Common.{arith, rules, ◌+◌}
 use Rattle.types.specs.Steps.{given-short, given-known, given-unknown}
-use borrow.Author.Rules.{rules}
 use Rattle.types.proofs.given_at.Goals as goal
 
 pub returns-then-s-at-lt3 : goal.returns-then-s-at-lt3

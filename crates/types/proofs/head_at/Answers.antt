@@ -1,6 +1,6 @@
 -- `head_at` answers the head that stands at an offset: one law of `specs/Steps` for each kind of record.
 use Rattle.types.specs.Steps.{head-none, head-bool, head-integer, head-given, head-power, head-product, head-other}
-use borrow.Author.Rules.{rules}
+use Rattle.std.proofs.Common.{rules}
 use Rattle.types.proofs.head_at.Goals as goal
 
 pub returns-then-at-s : goal.returns-then-at-s

@@ -1,10 +1,8 @@
 -- `type_end` is `end_at` on the bytes that places can number.
-use native.Mathlib.Omega.{arith}
-use mathlib.Core.Path.{◌≡◌, sym, ap, ◌∙◌}
+use Rattle.std.proofs.Common.{arith, sym, ap, rules, ◌≡◌, ◌∙◌}
 use Rattle.types.specs.Record.{reach}
 use Rattle.types.specs.Code.{end_of}
 use Rattle.types.specs.Steps.{in_reach, taken, taken-all}
-use borrow.Author.Rules.{rules}
 use Rattle.types.proofs.type_end.Goals as goal
 
 pub slice_bounds-end_at-end : goal.slice_bounds-end_at-end

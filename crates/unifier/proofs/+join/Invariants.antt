@@ -1,10 +1,7 @@
-use mathlib.Core.Path.{sym, ◌∙◌, ap}
-use native.Mathlib.Omega.{arith}
-use borrow.Author.Rules.{rules}
+use Rattle.std.proofs.Common.{sym, ap, arith, rules, ℕ, ◌<◌, ◌∙◌}
 use Rattle.unification.specs.Code.{take-inside, take_left, unify-left, unify-spent, unify_broken, unify-same, unify-differ, unify-bind, unify-one, unify-right}
 use Rattle.unifier.specs.Answers.{taken, unified_as}
 use Rattle.unifier.proofs.Laws.{unified_zero, unify-stop}
-use Prim.Native.Nat.{ℕ, ◌<◌}
 use Rattle.unifier.proofs.+join.Given as goal
 
 abbrev pub decreases-join : goal.decreases-join

@@ -1,10 +1,7 @@
-use mathlib.Core.Path.{sym, ◌∙◌, ap}
-use native.Mathlib.Omega.{arith}
-use borrow.Author.Rules.{rules}
+use Rattle.std.proofs.Common.{sym, ap, arith, rules, ℕ, ◌<◌, ◌∙◌}
 use Rattle.unification.specs.Code.{occurs-here, occurs-spent, occurs_broken, occurs-power, occurs-pair_no, occurs-leaf, occurs-left, reach-left}
 use Rattle.unifier.specs.Answers.{node_of, arrived, told_as}
 use Rattle.unifier.proofs.Laws.{told_no, occurs-stop}
-use Prim.Native.Nat.{ℕ, ◌<◌}
 use Rattle.unifier.proofs.+seek.Goals as goal
 
 pub returns-then-at-sought : goal.returns-then-at-sought

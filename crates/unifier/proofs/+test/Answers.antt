@@ -1,10 +1,7 @@
-use mathlib.Core.Path.{sym, ◌∙◌, ap}
-use native.Mathlib.Omega.{arith}
-use borrow.Author.Rules.{rules}
+use Rattle.std.proofs.Common.{sym, ap, arith, rules, ℕ, ◌<◌, ◌∙◌}
 use Rattle.unification.specs.Code.{solved-spent, solved_broken, solved-free, solved-power, solved-pair_yes, solved-leaf, solved-left, reach-left}
 use Rattle.unifier.specs.Answers.{node_of, arrived, told_as}
 use Rattle.unifier.proofs.Laws.{told_yes, solved-stop}
-use Prim.Native.Nat.{ℕ, ◌<◌}
 use Rattle.unifier.proofs.+test.Goals as goal
 
 pub test-requires : goal.test-requires

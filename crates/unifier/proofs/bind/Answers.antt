@@ -1,8 +1,7 @@
-use mathlib.Core.Path.{sym, ◌∙◌, ap}
+use Rattle.std.proofs.Common.{sym, ap, rules, ◌∙◌}
 use Rattle.unification.specs.Code.{assign_circular, assign-spent, assign_broken, assign-bound}
 use Rattle.unifier.specs.Answers.{unified_as}
 use Rattle.unifier.proofs.Laws.{as_merged, told_yes, told_no, told-spent, told_broken}
-use borrow.Author.Rules.{rules}
 use Rattle.unifier.proofs.bind.Goals as goal
 
 pub returns-then-found-eq1 : goal.returns-then-found-eq1

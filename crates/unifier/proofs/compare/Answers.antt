@@ -1,10 +1,7 @@
 use Rattle.meter.specs.Meter.{done}
 use Rattle.unification.specs.Code.{task_right, task_plain}
-use mathlib.Core.Logic.{inl, inr}
-use native.Mathlib.Omega.{arith}
+use Rattle.std.proofs.Common.{inl, inr, arith, sym, ap, eq-eqb, ne_eqb, ◌∙◌}
 use Rattle.unification.specs.Kinds.{no_seventh}
-use borrow.Author.Tests.{eq-eqb, ne_eqb}
-use mathlib.Core.Path.{sym, ap, ◌∙◌}
 use Rattle.unification.specs.Arena.{meet, same_atom, verdict_of}
 use Rattle.unification.specs.Kinds.{meet_right, meet-differ, meet-plain}
 use Rattle.unification.specs.Tasks.{task_of}

@@ -1,7 +1,5 @@
-use native.Mathlib.Omega.{arith}
-use lib.ListN.{length-set}
+use Rattle.std.proofs.Common.{arith, length-set, rules}
 use Rattle.unification.specs.Arena.{bind_at}
-use borrow.Author.Rules.{rules}
 use Rattle.unifier.proofs.link.Goals as goal
 
 pub bounds-words-at-2 : goal.bounds-words-at-2

@@ -1,8 +1,5 @@
-use mathlib.Core.Path.{sym, ◌∙◌}
-use native.Mathlib.Omega.{arith}
-use lib.ListN.{length-set}
+use Rattle.std.proofs.Common.{sym, arith, length-set, rules, ◌∙◌}
 use Rattle.unification.specs.Merge.{merge_plain, merge_below, merge_above, merge_last, merge_level}
-use borrow.Author.Rules.{rules}
 use Rattle.unifier.proofs.merge.Goals as goal
 
 pub returns-then-kind-ne78 : goal.returns-then-kind-ne78

@@ -1,12 +1,8 @@
-use mathlib.Core.Path.{refl, sym, ◌∙◌}
+use Rattle.std.proofs.Common.{refl, sym, lt-ltb, le-ltb, ap, arith, rules, ◌∙◌}
 use Rattle.unification.specs.Kinds.{node-here, root-range, bad-below, bad_above}
-use borrow.Author.Tests.{lt-ltb, le-ltb}
-use mathlib.Core.Path.{sym, ap, ◌∙◌}
-use native.Mathlib.Omega.{arith}
 use Rattle.unification.specs.Arena.{node_at, inside}
 use Rattle.unification.specs.Kinds.{root-range, bad-below, bad_above}
 use Rattle.unifier.specs.Answers.{node_of, found_of}
-use borrow.Author.Rules.{rules}
 use Rattle.unifier.proofs.node_at.Goals as goal
 
 pub returns-then-count-i : goal.returns-then-count-i

@@ -1,5 +1,4 @@
-use mathlib.Core.Path.{◌∙◌}
-use borrow.Author.Rules.{rules}
+use Rattle.std.proofs.Common.{◌∙◌, rules}
 use Rattle.unifier.proofs.occurs.Goals as goal
 
 pub returns : goal.returns

@@ -1,6 +1,4 @@
-use mathlib.Core.Path.{◌≡◌, refl, sym, ◌∙◌, ap, subst}
-use native.Mathlib.Omega.{arith}
-use borrow.Author.Rules.{rules}
+use Rattle.std.proofs.Common.{◌≡◌, ◌∙◌, refl, sym, ap, subst, arith, rules}
 use Rattle.unification.specs.Tasks.{arrive}
 use Rattle.unification.specs.Code.{arrive-here, arrive_broken, arrive-short, arrive-next}
 use Rattle.unifier.specs.Answers.{found_of, Settled, arrived}

@@ -1,8 +1,7 @@
-use mathlib.Core.Path.{sym, ◌∙◌, ap}
+use Rattle.std.proofs.Common.{sym, ap, rules, ◌∙◌}
 use Rattle.unification.specs.Tasks.{arrive-stands}
 use Rattle.unification.specs.Code.{take_none, take-left-spent, take-left_broken, take-right-spent, take-right_broken, take_same, take_task}
 use Rattle.unifier.specs.Answers.{arrived, taken}
-use borrow.Author.Rules.{rules}
 use Rattle.unifier.proofs.take_up.Goals as goal
 
 pub returns-then-budget-eq0 : goal.returns-then-budget-eq0

@@ -1,4 +1,4 @@
-use borrow.Author.Tests.{ne_eqb}
+use Rattle.std.proofs.Common.{ne_eqb}
 use Rattle.unifier.specs.Answers.{told, told_as}
 use Rattle.unifier.proofs.tell.Goals as goal
 

@@ -1,7 +1,6 @@
-use mathlib.Core.Path.{sym, ◌∙◌}
+use Rattle.std.proofs.Common.{sym, rules, ◌∙◌}
 use Rattle.unifier.specs.Answers.{settled}
 use Rattle.unifier.proofs.Laws.{unified_zero, unified_mismatch, unified_circular, unified_spent, unified_broken}
-use borrow.Author.Rules.{rules}
 use Rattle.unifier.proofs.unify.Goals as goal
 
 pub returns-in-0 : goal.returns-in-0

@@ -1,7 +1,6 @@
-use mathlib.Core.Path.{sym, ◌∙◌, ap}
+use Rattle.std.proofs.Common.{sym, ap, rules, ◌∙◌}
 use Rattle.unification.specs.Code.{reach-short, reach-done, reach-spent, reach_broken}
 use Rattle.unifier.specs.Answers.{arrived}
-use borrow.Author.Rules.{rules}
 use Rattle.unifier.proofs.visit.Goals as goal
 
 pub returns-then-left-eq0 : goal.returns-then-left-eq0

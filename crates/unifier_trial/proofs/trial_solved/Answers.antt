@@ -1,7 +1,6 @@
-use mathlib.Core.Path.{sym, ◌∙◌, ap}
+use Rattle.std.proofs.Common.{sym, ap, rules, ◌∙◌}
 use Rattle.unifier.specs.Answers.{told}
 use Rattle.unifier_trial.specs.Numbers.{told_as}
-use borrow.Author.Rules.{rules}
 use Rattle.unifier_trial.proofs.trial_solved.Goals as goal
 
 pub returns-in-Yes : goal.returns-in-Yes

@@ -1,7 +1,6 @@
-use mathlib.Core.Path.{sym, ◌∙◌, ap}
+use Rattle.std.proofs.Common.{sym, ap, rules, ◌∙◌}
 use Rattle.unifier.specs.Answers.{settled}
 use Rattle.unifier_trial.specs.Numbers.{unified_as}
-use borrow.Author.Rules.{rules}
 use Rattle.unifier_trial.proofs.trial_unify.Goals as goal
 
 pub returns-in-Done : goal.returns-in-Done

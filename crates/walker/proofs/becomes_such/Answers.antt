@@ -1,6 +1,4 @@
-use native.Mathlib.Omega.{arith}
-use mathlib.Core.Path.{◌≡◌, refl, sym, ◌∙◌}
-use borrow.Author.Rules.{rules}
+use Rattle.std.proofs.Common.{arith, sym, rules, ◌≡◌, ◌∙◌, refl}
 use Rattle.forms.specs.Forms.{step}
 use Rattle.walker.specs.Root.{becomes_such_of}
 use Rattle.walker.proofs.becomes_such.Goals as goal

@@ -1,5 +1,4 @@
-use mathlib.Core.Path.{refl, sym, ◌∙◌}
-use borrow.Author.Rules.{rules}
+use Rattle.std.proofs.Common.{refl, sym, rules, ◌∙◌}
 use Rattle.forms.specs.Forms.{step}
 use Rattle.walker.specs.Root.{formula_of, root_by}
 use Rattle.walker.proofs.formula.Goals as goal

@@ -1,8 +1,4 @@
-use Prim.Native.Nat.{ℕ, ◌+◌, ◌-◌}
-use native.Mathlib.Omega.{arith}
-use mathlib.Core.Path.{◌≡◌, refl, sym, ◌∙◌}
-use lib.ListN.{length}
-use borrow.Author.Rules.{rules}
+use Rattle.std.proofs.Common.{ℕ, ◌+◌, ◌-◌, arith, sym, rules, ◌≡◌, ◌∙◌, refl, length}
 use Rattle.forms.specs.Forms.{step}
 use Rattle.machine.specs.Machine.{mach}
 use Rattle.machine.specs.Types.{times_of}

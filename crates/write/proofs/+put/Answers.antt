@@ -1,12 +1,8 @@
-use mathlib.Core.Path.{sym, ◌∙◌, ap}
-use native.Mathlib.Omega.{arith}
-use borrow.Author.Rules.{rules}
-use lib.ListN.{length-set}
+use Rattle.std.proofs.Common.{sym, ap, arith, rules, length-set, ℕ, ◌<◌, ◌∙◌}
 use Rattle.unification.specs.Code.{reach-left}
 use Rattle.unification.specs.Put.{put-none, put-spent, put_broken, put-bool, put-int, put-given, put-given_full, put-power, put_right, put-left-spent, put-left-halt, put_other, put-left}
 use Rattle.unifier.specs.Answers.{arrived, node_of}
 use Rattle.write.specs.Answers.{laid}
-use Prim.Native.Nat.{ℕ, ◌<◌}
 use Rattle.write.proofs.+put.Goals as goal
 
 pub returns-then-page-at : goal.returns-then-page-at

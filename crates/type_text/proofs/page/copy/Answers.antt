@@ -1,11 +1,6 @@
 -- `copy`: the first i bytes stand in the page, and the rest of it is as it was.
-use borrow.Author.Rules.{rules}
-use native.Mathlib.Omega.{arith}
+use Rattle.std.proofs.Common.{rules, arith, ap, length-set, ◌++◌, ◌≤◌, ◌-◌, ◌+◌, ◌≡◌, ◌∙◌, refl, length, take, drop}
 use Rattle.type_text.specs.Page.{copy_start, copy_next, copy_end}
-use mathlib.Core.Path.{◌≡◌, refl, ap, ◌∙◌}
-use mathlib.Core.List.{◌++◌}
-use Prim.Native.Nat.{◌≤◌, ◌-◌, ◌+◌}
-use lib.ListN.{length, take, drop, length-set}
 use Rattle.type_text.proofs.page.copy.Goals as goal
 
 pub loop-i-init : goal.loop-i-init

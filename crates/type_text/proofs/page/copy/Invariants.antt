@@ -1,10 +1,5 @@
-use borrow.Author.Rules.{rules}
-use native.Mathlib.Omega.{arith}
+use Rattle.std.proofs.Common.{rules, arith, ap, length-set, ◌++◌, ◌≤◌, ◌-◌, ◌+◌, ◌≡◌, ◌∙◌, refl, length, take, drop}
 use Rattle.type_text.specs.Page.{copy_start, copy_next, copy_end}
-use mathlib.Core.Path.{◌≡◌, refl, ap, ◌∙◌}
-use mathlib.Core.List.{◌++◌}
-use Prim.Native.Nat.{◌≤◌, ◌-◌, ◌+◌}
-use lib.ListN.{length, take, drop, length-set}
 use Rattle.type_text.proofs.page.copy.Given as goal
 
 abbrev pub invariant-loop-i : goal.invariant-loop-i

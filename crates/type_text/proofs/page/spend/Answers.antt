@@ -1,7 +1,6 @@
 -- `spend` follows its definition, case by case.
-use native.Mathlib.Omega.{arith}
+use Rattle.std.proofs.Common.{arith, rules}
 use Rattle.type_text.specs.Page.{spend_over, spend_left, spend_past}
-use borrow.Author.Rules.{rules}
 use Rattle.type_text.proofs.page.spend.Goals as goal
 
 pub returns-in-Over : goal.returns-in-Over

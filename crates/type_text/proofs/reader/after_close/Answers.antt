@@ -1,8 +1,6 @@
 -- `after_close` follows its definition, case by case.
-use native.Mathlib.Omega.{arith}
+use Rattle.std.proofs.Common.{arith, rules, refl}
 use Rattle.type_text.specs.Lay.{after_as, after_close}
-use mathlib.Core.Path.{refl}
-use borrow.Author.Rules.{rules}
 use Rattle.type_text.proofs.reader.after_close.Goals as goal
 
 pub returns-in-Close : goal.returns-in-Close

@@ -1,9 +1,7 @@
 -- `atom_record_width` is the length of the atom's record.
-use native.Mathlib.Omega.{arith}
-use mathlib.Core.Path.{sym}
+use Rattle.std.proofs.Common.{arith, sym, rules}
 use Rattle.types.specs.Ty.{spell_atom}
 use Rattle.types.specs.Code.{atom_is}
-use borrow.Author.Rules.{rules}
 use Rattle.type_text.proofs.reader.atom_record_width.Goals as goal
 
 pub returns-in-Bool : goal.returns-in-Bool

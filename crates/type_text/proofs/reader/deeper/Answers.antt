@@ -1,7 +1,6 @@
 -- `deeper` follows its definition.
-use native.Mathlib.Omega.{arith}
+use Rattle.std.proofs.Common.{arith, rules}
 use Rattle.type_text.specs.Scan.{deeper-low, deeper_high}
-use borrow.Author.Rules.{rules}
 use Rattle.type_text.proofs.reader.deeper.Goals as goal
 
 pub returns-then-d-lt65 : goal.returns-then-d-lt65

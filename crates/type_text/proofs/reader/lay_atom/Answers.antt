@@ -1,8 +1,7 @@
 -- `lay_atom` puts the atom's record; a name's number has two bytes.
-use native.Mathlib.Omega.{arith}
+use Rattle.std.proofs.Common.{arith, rules}
 use Rattle.type_text.specs.Lay.{spell-bool, spell-integer, spell-given}
 use Rattle.type_text.specs.Page.{fits_as, splice_as}
-use borrow.Author.Rules.{rules}
 use Rattle.type_text.proofs.reader.lay_atom.Goals as goal
 
 pub copy-requires : goal.copy-requires

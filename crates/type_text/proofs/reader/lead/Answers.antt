@@ -1,11 +1,6 @@
 -- `lead`: the bytes from i on have moved one place, and the first i not yet.
-use borrow.Author.Rules.{rules}
-use native.Mathlib.Omega.{arith}
+use Rattle.std.proofs.Common.{rules, arith, length-set, ◌++◌, ◌≤◌, ◌-◌, ◌+◌, ◌≡◌, refl, length, take, drop}
 use Rattle.type_text.specs.Lay.{lead-start, lead-next, lead-end}
-use mathlib.Core.Path.{◌≡◌, refl}
-use mathlib.Core.List.{◌++◌}
-use Prim.Native.Nat.{◌≤◌, ◌-◌, ◌+◌}
-use lib.ListN.{length, take, drop, length-set}
 use Rattle.type_text.proofs.reader.lead.Goals as goal
 
 pub loop-i-init : goal.loop-i-init

@@ -1,9 +1,7 @@
 -- `scan_close` passes a fault on, and asks for the closing bracket.
 use Rattle.type_text.proofs.Laws.{closed-other}
-use native.Mathlib.Omega.{arith}
-use mathlib.Core.Path.{sym, ◌∙◌}
+use Rattle.std.proofs.Common.{arith, sym, rules, ◌∙◌}
 use Rattle.type_text.specs.Scan.{closed-stop, closed_at, closed-power, closed_open}
-use borrow.Author.Rules.{rules}
 use borrow.Enum.Refused.{opened}
 use Rattle.type_text.proofs.reader.scan_close.Goals as goal
 

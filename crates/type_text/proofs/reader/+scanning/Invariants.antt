@@ -1,12 +1,8 @@
-use borrow.Author.Rules.{rules}
+use Rattle.std.proofs.Common.{rules, arith, sym, ◌*◌, ◌+◌, ◌<◌, ◌≤◌, ℕ, ◌≡◌, ◌∙◌, refl, length}
 use Rattle.type_text.proofs.Laws.{operand_else, times_else}
-use native.Mathlib.Omega.{arith}
-use mathlib.Core.Path.{◌≡◌, refl, sym, ◌∙◌}
-use lib.ListN.{length}
 use Rattle.name_table.specs.Table.{names}
 use Rattle.type_text.specs.Scan.{scan_times_of, operand-deep, operand-leaf, operand-power, operand_open, operand-none, product-stop, product-go, times_none, times-other, times-stop, times-go}
-use Prim.Native.Nat.{◌*◌, ◌+◌, ◌<◌, ◌≤◌, ℕ}
-use Rattle.type_text.proofs.reader.+scan_operand_scan_product_scan_times.Given as goal
+use Rattle.type_text.proofs.reader.+scanning.Given as goal
 
 abbrev pub decreases-scan_operand : goal.decreases-scan_operand
 decreases-scan_operand l = l.c.left * 3

@@ -1,16 +1,11 @@
 -- The second pass lays the record of the type that the parse found. Its loop keeps: what is still to come makes the whole type of the one whose record stands in the page.
 use Rattle.type_text.proofs.Laws.{operand_else, times-over}
-use borrow.Author.Rules.{rules}
-use native.Mathlib.Omega.{arith}
-use mathlib.Core.Path.{◌≡◌, refl, sym, ◌∙◌}
-use mathlib.Core.List.{List}
-use lib.ListN.{length}
+use Rattle.std.proofs.Common.{rules, arith, sym, ◌*◌, ◌+◌, ◌<◌, ◌≤◌, ℕ, ◌≡◌, ◌∙◌, refl, List, length}
 use Rattle.name_table.specs.Table.{names}
 use Rattle.type_grammar.specs.Parse.{product_of}
 use Rattle.type_text.specs.Lay.{LayReady, Going, lay-lent-ready, lay-lent-end, lay-deep, lay-none, lay-leaf-fits, leaf-small, lay-leaf-end, lay-power-fits, lay-power-ready, lay-power-sum, lay-power-end, lay_open_ready, lay_open_end, lay-first, going_start, going_done, going_else, going-room, going-ready, going-sum, going_on}
-use Prim.Native.Nat.{◌*◌, ◌+◌, ◌<◌, ◌≤◌, ℕ}
 use borrow.Enum.Refused.{opened}
-use Rattle.type_text.proofs.reader.+lay_operand_lay_operand_at_lay_product_lay_product_at.Goals as goal
+use Rattle.type_text.proofs.reader.+laying.Goals as goal
 
 pub lay_operand-lay_atom-n-requires : goal.lay_operand-lay_atom-n-requires
 lay_operand-lay_atom-n-requires t c = record { a_in_bounds = lay-leaf-fits c.args.c.left (names c.args.table.now) c.args.text.now c.args.c.at _ c.token_at.ensures c.args.page.now _ _ c.in-Leaf.is c.requires; small = leaf-small c.args.table.now c.args.text.now c.args.c.at _ c.token_at.ensures _ _ c.in-Leaf.is }

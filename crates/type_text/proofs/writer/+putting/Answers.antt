@@ -1,11 +1,8 @@
 -- `put` and `put_at` write what `measure` counted. The number that falls is the levels left, a right operand coming before its own inside, and the lending before the part lent.
-use mathlib.Core.Path.{◌≡◌, refl, ap}
+use Rattle.std.proofs.Common.{◌≡◌, refl, ap, rules, arith, ◌*◌, ◌+◌, ◌<◌, ◌≤◌, ℕ}
 use Rattle.name_table.specs.Table.{names}
 use Rattle.type_text.specs.Put.{weight, some_level, put-unknown, atom-fits, atom-end, power_nested, brackets_nested, nested_fits, nested_ready, nested_sum, nested_room, nested_end, product-ready, product-room, product-next, product-sum, product-end, lent-ready, lent-end}
-use borrow.Author.Rules.{rules}
-use native.Mathlib.Omega.{arith}
-use Prim.Native.Nat.{◌*◌, ◌+◌, ◌<◌, ◌≤◌, ℕ}
-use Rattle.type_text.proofs.writer.+put_put_at.Goals as goal
+use Rattle.type_text.proofs.writer.+putting.Goals as goal
 
 pub put-put_atom-n-requires : goal.put-put_atom-n-requires
 put-put_atom-n-requires t c = atom-fits (names c.args.table.now) c.args.count c.args.bytes.now c.args.at c.args.left c.args.right c.args.page.now _ c.head_at.ensures _ _ c.in-Atomic.is c.requires

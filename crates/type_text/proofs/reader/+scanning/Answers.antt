@@ -1,14 +1,10 @@
 -- `scan_operand`, `scan_product` and `scan_times` follow the parse. The depth left falls from a product to the operands inside its brackets; × is a loop whose turns fall.
-use borrow.Author.Rules.{rules}
+use Rattle.std.proofs.Common.{rules, arith, sym, ◌*◌, ◌+◌, ◌<◌, ◌≤◌, ℕ, ◌≡◌, ◌∙◌, refl, length}
 use Rattle.type_text.proofs.Laws.{operand_else, times_else}
-use native.Mathlib.Omega.{arith}
-use mathlib.Core.Path.{◌≡◌, refl, sym, ◌∙◌}
-use lib.ListN.{length}
 use Rattle.name_table.specs.Table.{names}
 use Rattle.type_text.specs.Scan.{scan_times_of, operand-deep, operand-leaf, operand-power, operand_open, operand-none, product-stop, product-go, times_none, times-other, times-stop, times-go}
-use Prim.Native.Nat.{◌*◌, ◌+◌, ◌<◌, ◌≤◌, ℕ}
 use borrow.Enum.Refused.{opened}
-use Rattle.type_text.proofs.reader.+scan_operand_scan_product_scan_times.Goals as goal
+use Rattle.type_text.proofs.reader.+scanning.Goals as goal
 
 pub scan_operand-returns-then-left-eq0 : goal.scan_operand-returns-then-left-eq0
 scan_operand-returns-then-left-eq0 t c = operand-deep c.args.c.left (names c.args.table.now) c.args.text.now c.args.c.at c.args.room c.if-left-eq0.true

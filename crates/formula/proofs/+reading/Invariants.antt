@@ -1,13 +1,10 @@
 use Rattle.types.specs.Record.{reach}
-use borrow.Author.Rules.{rules}
-use native.Mathlib.Omega.{arith}
-use Prim.Native.Nat.{ℕ, ◌<◌, ◌≤◌, ◌+◌, ◌*◌}
-use mathlib.Core.Path.{◌≡◌, refl, sym, ap, ◌∙◌}
+use Rattle.std.proofs.Common.{rules, arith, sym, ap, ℕ, ◌<◌, ◌≤◌, ◌+◌, ◌*◌, ◌≡◌, ◌∙◌, refl}
 use Rattle.heads.specs.Heads.{pred_end}
 use Rattle.formula.specs.Reader.{after}
 use Rattle.formula.specs.Parse.{exprs_at, preds_at}
 use Rattle.formula.specs.Steps.{after_stop, expr-wrong, expr-deep, expr-node, pred_wrong, pred_deep_lem, pred_node, by-free, by-bound, by-literal, by-atomic, by-extension, by-truth, by-binary, by-associative, by-unary, by-quantified, by-ascribed, by-explicit, by-constant, by-variable, by-relational, by-connective, by-junction, by-negation, by-quantification, by-simple, by-multiple, by-application, exprs-none, exprs-next, preds-none, preds-next}
-use Rattle.formula.proofs.+read_expr_read_exprs_read_pred_read_preds.Given as goal
+use Rattle.formula.proofs.+reading.Given as goal
 
 abbrev pub decreases-read_expr : goal.decreases-read_expr
 decreases-read_expr l = l.left * 2
