@@ -3,6 +3,7 @@
 #![tactic(auto)]
 
 ghost use Rattle.std.specs.Prelude.{IfOk, ◌≤◌, length};
+ghost use Rattle.io.specs.Counts.{IsPrefixLen};
 
 use std::fs::{self, File};
 use std::io::{self, Read, Seek, SeekFrom};
@@ -47,7 +48,7 @@ fn after(list: &[u8], at: usize) -> usize {
 
 // Puts the bytes of a field of hexadecimal digits at the page's start, and answers how many there are. No digit, no byte.
 fn unhex(list: &[u8], from: usize, page: &mut [u8]) -> usize
-    ensures { result ≤ length page.new }
+    ensures { IsPrefixLen result page.new }
 {
     let mut at = from;
     let mut n = 0;
