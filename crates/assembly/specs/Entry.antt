@@ -25,7 +25,8 @@ use Rattle.inference.specs.Answer as I
 use Rattle.inference.specs.Answer.{refused, written}
 use Rattle.inference.specs.Finish.{Outcome, typed, failed}
 use Rattle.inference.specs.Infer.{either, sized, concluded, fitting, answer, answered, blamed, formed, infer_of, output_after, work_after, zeros}
-use Rattle.inference.specs.Sizes.{Sized, sized-holds}
+use Rattle.inference.specs.Sizes.{Sized}
+use Rattle.inference.proofs.Sizes.{sized-holds}
 use Rattle.machine.specs.Machine.{Mach}
 use Rattle.forms.specs.Forms.{test, then}
 use Rattle.walker.specs.Root.{formula_of}

@@ -19,11 +19,12 @@ use Rattle.typing.specs.Typings.{One, None, Several, index_excluded, excluded, e
 use Rattle.inference.specs.Answer.{Problem, nameless, two, four, spell_problem, spell_problems, Answer, written}
 use Rattle.inference.specs.Finish.{Outcome, finish}
 use Rattle.inference.specs.Infer.{answer, infer_of}
-use Rattle.inference.specs.AnyDirection.{Leaves, outcome-run, outcome-found}
-use Rattle.inference.specs.Cases.{auditors_table, two-unknowns-answered}
+use Rattle.inference.specs.AnyDirection.{Leaves, outcome-run}
+use Rattle.inference.proofs.AnyDirection.{outcome-found}
+use Rattle.inference.proofs.Cases.{auditors_table, two-unknowns-answered}
 use Rattle.soundness.specs.Listing.{Lists}
 use Rattle.soundness.specs.Calls.{Spells}
-use Rattle.soundness.specs.Soundness.{typed_exactly, clash_exactly, untyped_exactly, excluded_none, any_direction}
+use Rattle.soundness.proofs.Soundness.{typed_exactly, clash_exactly, untyped_exactly, excluded_none, any_direction}
 
 abbrev nothing_held : Env
 nothing_held = lookup []

@@ -13,8 +13,9 @@ use Rattle.inference.specs.Finish.{Outcome, typed, failed}
 use Rattle.inference.specs.Infer.{either, fitting, answer, infer_of}
 use Rattle.inference.specs.Numbers.{Sized}
 use Rattle.inference.specs.Conclude.{size}
-use Rattle.inference.specs.Budget.{price, outcome, fill, nodes_fit, nodes_full, given, enough, too_little}
-use Rattle.soundness.specs.Calls.{Reads, walks, answer-is}
+use Rattle.inference.proofs.Budget.{price, outcome, fill, nodes_fit, nodes_full, given, enough, too_little}
+use Rattle.soundness.specs.Calls.{Reads, walks}
+use Rattle.soundness.proofs.Calls.{answer-is}
 
 -- ---- an answer 0 or 1
 module _ (formula environment : List ℕ) (names capacity budget room work : ℕ) (judged : (infer_of formula environment names capacity budget room work).number ≤ 1) where
