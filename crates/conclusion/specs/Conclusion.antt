@@ -14,10 +14,12 @@ use Rattle.formula.specs.Tree.{Formula}
 use Rattle.formula_laws.specs.Fits.{FitsFormula}
 use Rattle.unification.specs.Arena.{Words, U}
 use Rattle.unification.specs.Trees.{var}
-use Rattle.unification.specs.Ops.{Bench, Ready, Sound, Ran, nodes, exec, exec_metered, exec-exact, exec_full}
+use Rattle.unification.specs.Ops.{Bench, Ready, Sound, Ran, nodes, exec}
+use Rattle.unification.proofs.Ops.{exec_metered, exec-exact, exec_full}
 use Rattle.walk.specs.Writer.{Row}
 use Rattle.walk.specs.Walk.{walked}
-use Rattle.walk.specs.Safe.{RowIn, SlotsIn, safe-formula}
+use Rattle.walk.specs.Safe.{RowIn, SlotsIn}
+use Rattle.walk.proofs.Safe.{safe-formula}
 use Rattle.walk.specs.Whole.{none_found}
 use Rattle.walk.specs.Verdict.{start}
 use Rattle.inference.specs.Answer.{Problem, spell_problems, spell_slots}

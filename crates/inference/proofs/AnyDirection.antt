@@ -13,7 +13,7 @@ use Rattle.unification.specs.Good.{Assignment, Admits, Good, extend, extend_admi
 use Rattle.unification.specs.Ops.{Bench}
 use Rattle.unification.specs.Shapes.{Same}
 use Rattle.unification.specs.Direction.{OneBinding}
-use Rattle.unification.specs.Runs.{every-run}
+use Rattle.unification.proofs.Runs.{every-run}
 use Rattle.walk.specs.Writer.{Row}
 use Rattle.walk.specs.Walk.{walked}
 use Rattle.walk.specs.Safe.{SlotsIn}
@@ -25,7 +25,7 @@ use Rattle.inference.proofs.Rows.{found-asked}
 use Rattle.inference.specs.Conclude.{Judge, Told, told_none, told, SlotsTold, Finished, size, safe, long}
 use Rattle.inference.proofs.Conclude.{finish-exact, finished}
 use Rattle.inference.proofs.Budget.{outcome, outcome-only}
-use Rattle.inference.specs.AnyDirection.{walk, empty, Leaves}
+use Rattle.inference.specs.AnyDirection.{walk, Leaves, empty}
 
 -- ---- what is found depends on the admitted assignments alone
 module _ {A B : Assignment → Type 0} (σ : Assignment) (a : A σ) (to : (ν : Assignment) → A ν → B ν) (from : (ν : Assignment) → B ν → A ν) where

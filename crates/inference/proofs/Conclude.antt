@@ -12,11 +12,13 @@ use Rattle.unification.specs.Arena.{Words, U, node_at, solved, read}
 use Rattle.unification.specs.Trees.{var, eval, ground, ground_differs}
 use Rattle.unification.specs.Good.{Assignment, Admits, Good, spelt, extend, extend_admits}
 use Rattle.unification.specs.Readers.{solved-exact, read-exact}
-use Rattle.unification.specs.Ops.{Bench, Ready, Ran, exec_full, exec_wider}
+use Rattle.unification.specs.Ops.{Bench, Ready, Ran}
+use Rattle.unification.proofs.Ops.{exec_full, exec_wider}
 use Rattle.walk.specs.Writer.{Row, at}
 use Rattle.walk.specs.Walk.{walked}
 use Rattle.walk.specs.Safe.{SlotsIn}
-use Rattle.walk.specs.Verdict.{start, walk_runs}
+use Rattle.walk.specs.Verdict.{start}
+use Rattle.walk.proofs.Verdict.{walk_runs}
 use Rattle.inference.specs.Answer.{Problem}
 use Rattle.inference.specs.Finish.{found, unsolved, test, Question, ask, names, slots, Outcome, test_slots, walk_problems, finish}
 use Rattle.inference.specs.Infer.{zeros, concluded}

@@ -11,7 +11,8 @@ use Rattle.typing.specs.Equations.{first_of}
 use Rattle.typing.specs.Typings.{meetings_of, has, meet, meet_all, lacking}
 use Rattle.walk.specs.Writer.{Met, Row, at, found, find}
 use Rattle.walk.specs.Walk.{walked}
-use Rattle.walk.specs.Names.{unheld, row_lacking, has-found, walk-names}
+use Rattle.walk.specs.Names.{unheld, row_lacking, has-found}
+use Rattle.walk.proofs.Names.{walk-names}
 use Rattle.walk.specs.Safe.{SlotsIn}
 use Rattle.inference.specs.Finish.{ask_name, names, slots}
 use Rattle.inference.specs.Rows.{Once, Every, OfNames}

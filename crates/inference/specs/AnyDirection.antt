@@ -13,9 +13,11 @@ use Rattle.unification.specs.Arena.{U, Direction}
 use Rattle.unification.specs.Trees.{var}
 use Rattle.unification.specs.Ops.{Bench, Ran, exec}
 use Rattle.unification.specs.Direction.{OneBinding}
-use Rattle.unification.specs.Runs.{Runs, over, some-run}
+use Rattle.unification.specs.Runs.{Runs, over}
+use Rattle.unification.proofs.Runs.{some-run}
 use Rattle.walk.specs.Walk.{walked}
-use Rattle.walk.specs.Verdict.{start, walk_runs}
+use Rattle.walk.specs.Verdict.{start}
+use Rattle.walk.proofs.Verdict.{walk_runs}
 use Rattle.inference.specs.Infer.{zeros}
 use Rattle.inference.specs.Conclude.{size, safe, long}
 

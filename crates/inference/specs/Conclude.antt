@@ -16,7 +16,8 @@ use Rattle.unification.specs.Good.{Assignment, Admits}
 use Rattle.unification.specs.Ops.{Bench, Ran, Sound, nodes}
 use Rattle.walk.specs.Writer.{Row}
 use Rattle.walk.specs.Walk.{walked}
-use Rattle.walk.specs.Safe.{RowIn, SlotsIn, safe-formula}
+use Rattle.walk.specs.Safe.{RowIn, SlotsIn}
+use Rattle.walk.proofs.Safe.{safe-formula}
 use Rattle.walk.specs.Whole.{none_found}
 use Rattle.walk.specs.Verdict.{start}
 use Rattle.inference.specs.Answer.{Problem}

@@ -1,45 +1,14 @@
 -- Theorems on specs/Calls.antt.
-use Rattle.std.specs.Prelude.{ℕ, ◌≤◌, ◌≡◌, List}
-use Rattle.std.proofs.Common.{sym, ◌∙◌, ap₂}
+use Rattle.std.specs.Prelude.{ℕ, ◌≤◌, List}
 use Rattle.formula.specs.Tree.{Formula}
 use Rattle.formula.specs.Environment.{Entries, lookup}
-use Rattle.formula.specs.Parse.{parsed}
-use Rattle.formula_laws.specs.Exact.{spelled-is-parsed, parsed-is-spelled}
-use Rattle.formula_laws.specs.ExactEnvironment.{spelled-entries-parsed, parsed-entries-spelled}
-use Rattle.inference.specs.Infer.{answer, infer_of}
-use Rattle.inference.specs.Numbers.{Walks}
-use Rattle.inference.proofs.Budget.{price, outcome, outcome-holds, given}
+use Rattle.inference.specs.Infer.{infer_of}
+use Rattle.inference.proofs.Budget.{outcome, outcome-holds}
 use Rattle.soundness.specs.Verdict.{Verdict}
 use Rattle.soundness.proofs.Verdict.{verdict}
-use Rattle.soundness.specs.Calls.{Reads, Spells, walks, Bytes}
-
-pub spelled-read : {formula environment : List ℕ} {names : ℕ} {es : Entries} {f : Formula} → Spells formula environment names es f → Reads formula environment names es f
-spelled-read s = record { environment_read = spelled-entries-parsed _ _ _ s.environment_spelled; formula_read = spelled-is-parsed _ _ _ s.formula_spelled }
-
--- whatever is answered, is answered of bytes that spell an environment and a formula
-pub answered-spells : (formula environment : List ℕ) → Bytes formula → Bytes environment → (names capacity budget room work : ℕ) → (infer_of formula environment names capacity budget room work).number ≤ 1
-    → (es : Entries) × (f : Formula) × Spells formula environment names es f
-answered-spells formula environment bf be names capacity budget room work judged =
-    let w = (given formula environment names capacity budget room work judged).walks in
-    (w.entries, w.tree, record { environment_spelled = parsed-entries-spelled names environment be w.entries w.environment_read; formula_spelled = parsed-is-spelled names formula bf w.tree w.formula_read })
+use Rattle.soundness.specs.Calls.{Reads}
 
 module _ (formula environment : List ℕ) (names capacity budget room work : ℕ) (es : Entries) (f : Formula) (reads : Reads formula environment names es f) where
-  parsed-same : {A : Type 0} {a a' : A} → parsed a ≡ parsed a' → a ≡ a'
-  parsed-same e = cc
-
   module _ (judged : (infer_of formula environment names capacity budget room work).number ≤ 1) where
-    abbrev W : Walks formula environment names capacity budget room work
-    W = (given formula environment names capacity budget room work judged).walks
-
-    same_entries : W.entries ≡ es
-    same_entries = parsed-same (sym W.environment_read ∙ reads.environment_read)
-
-    same-tree : W.tree ≡ f
-    same-tree = parsed-same (sym W.formula_read ∙ reads.formula_read)
-
-    pub answer-is : infer_of formula environment names capacity budget room work ≡ answer (price (lookup es) f) (outcome (lookup es) f)
-    answer-is = (given formula environment names capacity budget room work judged).is
-        ∙ ap₂ (λ (ds : Entries) (g : Formula). answer (price (lookup ds) g) (outcome (lookup ds) g)) same_entries same-tree
-
     pub outcome-verdict : Verdict (lookup es) f (outcome (lookup es) f)
     outcome-verdict = verdict (lookup es) f (outcome (lookup es) f) (outcome-holds (lookup es) f)

@@ -7,7 +7,7 @@ use Rattle.std.proofs.Common.{ap, subst, inl, arith}
 use Rattle.meter.specs.Meter.{done}
 use Rattle.unification.specs.Arena.{left_bound}
 use Rattle.unification.specs.Ops.{Bench}
-use Rattle.unification.specs.Direction.{left_binds}
+use Rattle.unification.proofs.Direction.{left_binds}
 use Rattle.walk.specs.Walk.{walked}
 use Rattle.formula.specs.Tree.{Formula, predicate, relational, free, atomic, bound, expression, binary, literal, extension, none, more, exprs, slots, slots_pred, slots_of}
 use Rattle.formula.specs.Environment.{Env, lookup, Distinct, spell_entries}

@@ -13,8 +13,7 @@ use Rattle.unification.specs.Ops.{In}
 use Rattle.inference.specs.Answer.{Problem, spell_problems, spell_slots, written}
 use Rattle.inference.specs.Finish.{Outcome, typed, failed}
 use Rattle.inference.specs.Infer.{answer}
-use Rattle.soundness.specs.Listing.{Lists, AllOf, SomeOf, Clash, Untyped, problem_of}
-use Rattle.soundness.proofs.Listing.{all-some, same-all}
+use Rattle.soundness.specs.Listing.{Lists, AllOf, SomeOf, Clash, Untyped, problem_of, all-some, same-all}
 use Rattle.soundness.specs.Verdict.{OfWalk, Verdict, one, several, none}
 
 module _ (Γ : Env) (f : Formula) (steps : ℕ) where

@@ -1,9 +1,5 @@
 pub mod Calls
 pub mod Examples
-pub mod Excluded
-pub mod Findings
 pub mod Judge
-pub mod Listing
-pub mod Price
 pub mod Soundness
 pub mod Verdict

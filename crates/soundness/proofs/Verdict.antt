@@ -16,21 +16,23 @@ use Rattle.unification.specs.Good.{Assignment}
 use Rattle.unification.specs.Readers.{solved-exact}
 use Rattle.unification.specs.Ops.{Bench, Ran, Admitted, Whence, before, listing, failing, In, listed}
 use Rattle.walk.specs.Walk.{walked}
-use Rattle.walk.specs.Safe.{RowIn, SlotsIn, safe-formula}
+use Rattle.walk.specs.Safe.{RowIn, SlotsIn}
+use Rattle.walk.proofs.Safe.{safe-formula}
 use Rattle.walk.specs.Whole.{none_found}
-use Rattle.walk.specs.Excluded.{own-listed}
-use Rattle.walk.specs.Readings.{SlotAt, Asked, slot_asked, name_asked, slots-told}
-use Rattle.walk.specs.Verdict.{start, typings_exist, excluded_listed, clash_kinds, SlotsFixed, NamesFixed, AllFixed, one_typing, typing_spelt, reading, reading_admitted, solved_fixed, unsolved-several}
+use Rattle.walk.proofs.Excluded.{own-listed}
+use Rattle.walk.specs.Readings.{SlotAt, Asked, slot_asked, name_asked}
+use Rattle.walk.proofs.Readings.{slots-told}
+use Rattle.walk.specs.Verdict.{start, SlotsFixed, NamesFixed, AllFixed, reading}
+use Rattle.walk.proofs.Verdict.{typings_exist, excluded_listed, clash_kinds, one_typing, typing_spelt, reading_admitted, solved_fixed, unsolved-several}
 use Rattle.inference.specs.Answer.{Problem}
 use Rattle.inference.specs.Finish.{found, unsolved, Findings, names, slots, Outcome, typed, failed, settled, walk_problems}
 use Rattle.inference.specs.Infer.{zeros}
 use Rattle.inference.specs.Rows.{Every, every_map}
 use Rattle.inference.proofs.Rows.{found-asked, asked-found}
 use Rattle.inference.specs.Conclude.{Told, Judged, SlotsTold, Finished, size, Concluded}
-use Rattle.soundness.specs.Listing.{AllOf, SomeOf, Clash, Untyped, problem_of}
-use Rattle.soundness.proofs.Listing.{some-map, walk-listed}
-use Rattle.soundness.proofs.Findings.{told-problems, told-unsolved, all_found, types-found, slots-types, slots-asked, slots_untyped, names_untyped, names-types}
-use Rattle.soundness.proofs.Excluded.{excluded_kinds}
+use Rattle.soundness.specs.Listing.{AllOf, SomeOf, Clash, Untyped, problem_of, some-map, walk-listed}
+use Rattle.soundness.specs.Findings.{told-problems, told-unsolved, all_found, types-found, slots-types, slots-asked, slots_untyped, names_untyped, names-types}
+use Rattle.soundness.specs.Excluded.{excluded_kinds}
 use Rattle.soundness.specs.Verdict.{Verdict, one, OfWalk, none, several}
 
 module _ (Γ : Env) (f : Formula) (s : Bench) (ran : Ran (size Γ f) (start (zeros (3 * size Γ f))) (walked Γ f).ops s) where

@@ -8,8 +8,7 @@ use Rattle.name_table.specs.Laws.{Usable}
 use Rattle.type_grammar.specs.Text.{power_open, bracket_open, bracket_close, times, text, bracketed, nest, nest_right}
 use Rattle.type_grammar.specs.Grammar.{Denotes, leaf, in_power, in_brackets, single, further, whole, operand}
 use Rattle.type_grammar.specs.Parse.{parse}
-use Rattle.type_grammar.specs.Reads.{denoted_is-read}
-use Rattle.type_grammar.proofs.ReadBack.{denotes-one}
+use Rattle.type_grammar.specs.Reads.{denoted_is-read, denotes-one}
 
 canonical : (ns : List (List ℕ)) (t : Ty) → Below (length ns) t → ((d : ℕ) → nest t ≤ d → Denotes ns whole d (text ns t) t) × ((d : ℕ) → nest_right t (nest t) ≤ d → Denotes ns operand d (bracketed t (text ns t)) t)
 unfolding Below nest nest_right text bracketed

@@ -1,2 +1,1 @@
 pub mod Canonical
-pub mod ReadBack

@@ -1,5 +1,5 @@
 -- Every text that denotes a type is read to it (`whole-is-read`, `denoted_is-read`); so a text denotes one type at most (`denotes-one`).
-use Prim.Native.Nat.{ℕ, zero, suc, ◌+◌, ◌-◌, ◌≤◌}
+use Prim.Native.Nat.{ℕ, zero, suc, ◌+◌, ◌-◌, ◌≤◌, ◌<◌, max}
 use Rattle.std.proofs.Common.{add-zero, zero-add, sym, ◌∙◌, eq-eqb}
 use native.Mathlib.Omega.{arith}
 use Rattle.std.specs.Prelude.{◌≡◌, refl, Bool, true, false, ◌&&◌, get_or}
@@ -7,24 +7,25 @@ use Rattle.std.proofs.Math.Path.{ap}
 use mathlib.Core.List.{List, [], ◌∷◌, ◌++◌, append_assoc, append-nil}
 use Rattle.std.proofs.Math.ListN.{length, drop, length-append, length-drop}
 use Rattle.std.proofs.Math.Seq.{drop-length}
-use Rattle.types.specs.Ty.{Atom, Ty, base, pow, prod, AtomBelow, bool-below, int-below, given_below}
+use Rattle.types.specs.Ty.{Atom, Ty, base, pow, prod, AtomBelow, bool-below, int-below, given_below, Below}
 use Rattle.types.specs.Ty as T
-use Rattle.types.specs.Record.{TypeAt, got, and_then}
+use Rattle.types.specs.Record.{TypeAt, got, malformed, deep, and_then}
 use Rattle.types.specs.Code.{atom_is}
 use Rattle.types.specs.Spellings.{past}
 use Rattle.types.specs.declared.Atom as C
 use Rattle.types.specs.declared.Atom.TheVariants as A
 use Rattle.name_table.specs.Words.{between, letter, word_byte, all_word, is_word, same}
-use Rattle.name_table.specs.Table.{at}
+use Rattle.name_table.specs.Table.{boolean, at, find}
 use Rattle.name_table.specs.Laws.{Usable}
 use Rattle.type_grammar.specs.declared.Token.{Token}
 use Rattle.type_grammar.specs.declared.Token.TheVariants.{Leaf, Power, Open, Close, Times, Wrong}
-use Rattle.type_grammar.specs.Text.{power_open, bracket_open, bracket_close, times, text_atom, text}
+use Rattle.type_grammar.specs.Text.{power_open, bracket_open, bracket_close, times, text_atom, text, bracketed, nest, nest_right}
 use Rattle.type_grammar.specs.Token.{starts, word_of, name_token, word_token, word_token_at, sign_token, token_of, token_at}
 use Rattle.type_grammar.specs.Grammar.{Denotes, leaf, in_power, in_brackets, single, further, Sort, whole, operand}
 use Rattle.type_grammar.specs.Parse.{closing, operand_by, times_by, times_on, product_by, operand_of, product_of, ends_at, parse}
 
 -- ---- words
+
 and_left : (a b : Bool) → (a && b) ≡ true → a ≡ true
 and_left true b e = refl
 and_left false b e = e
@@ -50,6 +51,7 @@ word_token_lem ns p (c ∷ w) rest e h =
     rw l (ap (word_token ns p) (word-append (c ∷ w) rest (rw (letter-word c l) (and_right (letter c) (all_word w) e)) h))
 
 -- ---- tokens
+
 -- an atom as the code has it
 unfoldable pub code_atom : Atom → C.Atom
 code_atom T.bool = A.Bool
@@ -99,12 +101,14 @@ unfolding word_of
 nothing_ends = refl
 
 -- ---- places
+
 -- the token at a place
 pub token_here : (ns : List (List ℕ)) (s : List ℕ) (p : ℕ) (l : List ℕ) (k : Token) → drop p s ≡ l → token_of ns p l ≡ k → token_at ns s p ≡ k
 unfolding token_at
 token_here ns s p l k h e = ap (token_of ns p) h ∙ e
 
 -- ---- reading
+
 -- the products of a derivation at its own level
 unfoldable pub turns : {ns : List (List ℕ)} {pl : Sort} {d : ℕ} {x : List ℕ} {t : Ty} → Denotes ns pl d x t → ℕ
 turns (leaf k) = 0
@@ -222,3 +226,10 @@ whole-is-read ns u d x t w =
 pub denoted_is-read : (ns : List (List ℕ)) → Usable ns → (x : List ℕ) (t : Ty) → Denotes ns whole 32 x t → parse ns x ≡ got t (length x)
 unfolding parse and_then ends_at
 denoted_is-read ns u x t w = rw (whole-is-read ns u 32 x t w, eq-eqb (length x) (length x) refl)
+
+-- a text denotes one type at most
+pub denotes-one : (ns : List (List ℕ)) → Usable ns → (d : ℕ) (x : List ℕ) (t v : Ty) → Denotes ns whole d x t → Denotes ns whole d x v → t ≡ v
+denotes-one ns u d x t v w z =
+    let p = whole-is-read ns u d x t w in
+    let q = whole-is-read ns u d x v z in
+    cc

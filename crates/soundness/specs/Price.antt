@@ -14,8 +14,7 @@ use Rattle.inference.specs.Infer.{either, fitting, answer, infer_of}
 use Rattle.inference.specs.Numbers.{Sized}
 use Rattle.inference.specs.Conclude.{size}
 use Rattle.inference.proofs.Budget.{price, outcome, fill, nodes_fit, nodes_full, given, enough, too_little}
-use Rattle.soundness.specs.Calls.{Reads, walks}
-use Rattle.soundness.proofs.Calls.{answer-is}
+use Rattle.soundness.specs.Calls.{Reads, walks, answer-is}
 
 -- ---- an answer 0 or 1
 module _ (formula environment : List ℕ) (names capacity budget room work : ℕ) (judged : (infer_of formula environment names capacity budget room work).number ≤ 1) where
