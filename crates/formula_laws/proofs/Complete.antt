@@ -27,7 +27,7 @@ use Rattle.formula.specs.Parse.{decl_by, decl_if, decl_at, decls_at, expr_by, pr
 use Rattle.types.specs.Limits.{max_depth, max_slots, max_opened, levels}
 use Rattle.formula_laws.specs.Fits.{is_bare, FitsTy, FitsSpelling, FitsDecl, FitsDecls, Fits, FitsAll, FitsPred, FitsPreds, FitsTargets, FitsPairs, FitsRoot, FitsFormula}
 use Rattle.formula_laws.specs.Sizes.{length_ty, length_decl, length-decls, length-expr, length_pred, length-targets}
-use Rattle.formula_laws.specs.Complete.{state, byte_here, head-annotated, state-is, head-typed, head_plain, after_one, head-associative, head-junction, head-explicit, head-free, head-connective, head-quantification, head-unary, own-here, head-bound, head-negation, head-quantified, head-literal, head-relational, head-simple, after_two, after-three, head-binary, head-constant, head-application, after-four, head-extension, head-ascribed, head-variable, head-atomic, head-truth, head-multiple, target-here, past-target, few-here, targets-here, expr-first, pred_first}
+use Rattle.formula_laws.specs.Complete.{state, byte_here, head-annotated, head_plain, state-is, head-typed, after_one, after-three, head-binary, head-junction, head-ascribed, head-simple, head-quantified, head-relational, head-constant, head-extension, head-variable, head-connective, after-four, after_two, head-associative, head-explicit, head-free, head-negation, head-atomic, head-unary, head-bound, head-application, head-literal, own-here, head-quantification, head-truth, head-multiple, past-target, target-here, few-here, targets-here, pred_first, expr-first}
 
 declare-here : (e : Place) (p k o : ℕ) → k < max_slots → o < max_opened → declare_of e (state p k o) ≡ Next (record { at = e; slots = k + 1; opened = o + 1 })
 unfolding declare_of

@@ -42,7 +42,7 @@ use Rattle.formula_laws.specs.Shape.{ShapeSpelling, ShapeDecl, ShapeDecls, Shape
 use Rattle.formula_laws.proofs.Shape.{fits_decl, fits-decls, fits-shape, fits_pred}
 use Rattle.formula_laws.specs.Sound.{Holds, TypeRead, SpellingRead, DeclRead, DeclsRead, ExprRead, ExprsRead, PredRead, PredsRead, TargetRead, TargetsRead, PairRead, step-own, step-declare, step-moved, sound-target, sound-targets}
 use Rattle.formula_laws.proofs.Sound.{sound-type, sound_spelling, sound_decl, sound-decls, sound-expr, sound_pred, sound-pair, all_read, preds-read}
-use Rattle.formula_laws.specs.Faults.{Fails, TypeUp, lead_up, SpellingUp, upto-here, DeclUp, upto-after, DeclsUp, upto-first, UpTo, FormulaUp, TargetUp, TargetsUp}
+use Rattle.formula_laws.specs.Faults.{Fails, lead_up, TypeUp, SpellingUp, upto-here, DeclUp, upto-after, DeclsUp, upto-first, ExprUp, PredUp, ExprsUp, PredsUp, FormulaUp, TargetUp, TargetsUp, PairUp, PairsUp}
 
 unfoldable Faulty : (ℕ → Type 0) → Out → Type 0
 Faulty U (Next t) = Unit {0}
@@ -180,26 +180,13 @@ module _ (names : ℕ) (s : List ℕ) (bytes : (i : ℕ) → get_or s i 0 < 256)
   decls-fails left d l n st =
       fails-many [] ◌∷◌ (decl_at names s left) (DeclRead names s bytes d) (DeclUp names s bytes) (DeclsUp names s bytes) (sound_decl names s bytes d left l) (decl_fails left d l) decls-first (decls-later d) n st
 
-  -- ---- expressions and predicates
-  pub ExprUp : Bool → St → ℕ → Type 0
-  ExprUp bare st q = (a : Expr) × (bare ≡ true → is_bare a ≡ true) × Shape names a × UpTo s st.at.0 q (spell a)
-
-  pub PredUp : St → ℕ → Type 0
-  PredUp st q = (a : Pred) × ShapePred names a × UpTo s st.at.0 q (spell_pred a)
-
-  expr-start : (bare : Bool) (st : St) → ExprUp bare st st.at.0
+  expr-start : (bare : Bool) (st : St) → ExprUp names s bytes bare st st.at.0
   unfolding ExprUp Shape is_bare
   expr-start bare st = (literal 0, (λ z. refl), tt, upto-here s st.at.0 _)
 
-  pred_start : (st : St) → PredUp st st.at.0
+  pred_start : (st : St) → PredUp names s bytes st st.at.0
   unfolding PredUp ShapePred
   pred_start st = (constant 0, tt, upto-here s st.at.0 _)
-
-  pub ExprsUp : ℕ → St → ℕ → Type 0
-  ExprsUp n st q = (es : Exprs) × (exprs es ≡ n) × ShapeAll names es × UpTo s st.at.0 q (spell_all es)
-
-  pub PredsUp : ℕ → St → ℕ → Type 0
-  PredsUp n st q = (qs : Preds) × (preds qs ≡ n) × ShapePreds names qs × UpTo s st.at.0 q (spell_preds qs)
 
   -- n literals, n constants
   literals : ℕ → Exprs
@@ -220,19 +207,19 @@ module _ (names : ℕ) (s : List ℕ) (bytes : (i : ℕ) → get_or s i 0 < 256)
   constants-good zero = (refl, tt)
   constants-good (suc n) = let h = constants-good n in (ap suc h.0, (tt, h.1))
 
-  exprs-first : (n : ℕ) (st : St) (q : ℕ) → ExprUp false st q → ExprsUp (suc n) st q
+  exprs-first : (n : ℕ) (st : St) (q : ℕ) → ExprUp names s bytes false st q → ExprsUp names s bytes (suc n) st q
   unfolding ExprUp ExprsUp ShapeAll exprs spell_all
   exprs-first n st q u = let h = literals-good n in (more u.0 (literals n), ap suc h.0, (u.2, h.1), upto-first s u.3 (spell_all (literals n)))
 
-  exprs-later : (d n : ℕ) (st t : St) (a : Expr) (q : ℕ) → ExprRead names s bytes d false st a t → ExprsUp n t q → ExprsUp (suc n) st q
+  exprs-later : (d n : ℕ) (st t : St) (a : Expr) (q : ℕ) → ExprRead names s bytes d false st a t → ExprsUp names s bytes n t q → ExprsUp names s bytes (suc n) st q
   unfolding ExprsUp ShapeAll exprs spell_all
   exprs-later d n st t a q r w = (more a w.0, ap suc w.1, (fits-shape a names d st.opened r.fits, w.2), upto-after s r.step.stand w.3)
 
-  preds-first : (n : ℕ) (st : St) (q : ℕ) → PredUp st q → PredsUp (suc n) st q
+  preds-first : (n : ℕ) (st : St) (q : ℕ) → PredUp names s bytes st q → PredsUp names s bytes (suc n) st q
   unfolding PredUp PredsUp ShapePreds preds spell_preds
   preds-first n st q u = let h = constants-good n in (also u.0 (constants n), ap suc h.0, (u.1, h.1), upto-first s u.2 (spell_preds (constants n)))
 
-  preds-later : (d n : ℕ) (st t : St) (a : Pred) (q : ℕ) → PredRead names s bytes d st a t → PredsUp n t q → PredsUp (suc n) st q
+  preds-later : (d n : ℕ) (st t : St) (a : Pred) (q : ℕ) → PredRead names s bytes d st a t → PredsUp names s bytes n t q → PredsUp names s bytes (suc n) st q
   unfolding PredsUp ShapePreds preds spell_preds
   preds-later d n st t a q r w = (also a w.0, ap suc w.1, (fits_pred a names d st.opened r.fits, w.2), upto-after s r.step.stand w.3)
 
@@ -259,12 +246,12 @@ module _ (names : ℕ) (s : List ℕ) (bytes : (i : ℕ) → get_or s i 0 < 256)
   -- one record, where X and Q read those below it
   module _ (d left : ℕ) (l : suc d + left ≡ levels) (X : Bool → St → Got Expr) (Q : St → Got Pred)
       (hX : (b : Bool) (t : St) → Holds (λ u a. ExprRead names s bytes (suc d) b t a u) (X b t)) (hQ : (t : St) → Holds (λ u a. PredRead names s bytes (suc d) t a u) (Q t))
-      (fX : (b : Bool) (t : St) → Fails (ExprUp b t) (X b t)) (fQ : (t : St) → Fails (PredUp t) (Q t)) (st : St) where
-    all-fails : (n : ℕ) (t : St) → Fails (ExprsUp n t) (many none more (X false) n t)
-    all-fails n t = fails-many none more (X false) (ExprRead names s bytes (suc d) false) (ExprUp false) ExprsUp (hX false) (fX false) exprs-first (exprs-later (suc d)) n t
+      (fX : (b : Bool) (t : St) → Fails (ExprUp names s bytes b t) (X b t)) (fQ : (t : St) → Fails (PredUp names s bytes t) (Q t)) (st : St) where
+    all-fails : (n : ℕ) (t : St) → Fails (ExprsUp names s bytes n t) (many none more (X false) n t)
+    all-fails n t = fails-many none more (X false) (ExprRead names s bytes (suc d) false) (ExprUp names s bytes false) (ExprsUp names s bytes) (hX false) (fX false) exprs-first (exprs-later (suc d)) n t
 
-    preds-fails : (n : ℕ) (t : St) → Fails (PredsUp n t) (many end also Q n t)
-    preds-fails n t = fails-many end also Q (PredRead names s bytes (suc d)) PredUp PredsUp hQ fQ preds-first (preds-later (suc d)) n t
+    preds-fails : (n : ℕ) (t : St) → Fails (PredsUp names s bytes n t) (many end also Q n t)
+    preds-fails n t = fails-many end also Q (PredRead names s bytes (suc d)) (PredUp names s bytes) (PredsUp names s bytes) hQ fQ preds-first (preds-later (suc d)) n t
 
     shape_of : {b : Bool} {t u : St} {a : Expr} → ExprRead names s bytes (suc d) b t a u → Shape names a
     shape_of {t = t} {a = a} r = fits-shape a names (suc d) t.opened r.fits
@@ -272,111 +259,111 @@ module _ (names : ℕ) (s : List ℕ) (bytes : (i : ℕ) → get_or s i 0 < 256)
     shape_pred_of : {t u : St} {a : Pred} → PredRead names s bytes (suc d) t a u → ShapePred names a
     shape_pred_of {t = t} {a = a} r = fits_pred a names (suc d) t.opened r.fits
 
-    expr-by-fails : (bare : Bool) (h : ExprHead) → ExprSays names s bare st.at.0 (E.Is h) → Fails (ExprUp bare st) (expr_by names s left X Q st h)
+    expr-by-fails : (bare : Bool) (h : ExprHead) → ExprSays names s bare st.at.0 (E.Is h) → Fails (ExprUp names s bytes bare st) (expr_by names s left X Q st h)
     unfolding expr_by ExprSays Fails ExprUp PredUp ExprsUp DeclsUp SpellingUp TypeUp Shape spell is_bare
-    expr-by-fails bare (Free n e) x = fails-next (ExprUp bare st) (own_of e st) _ (own-faulty (ExprUp bare st) e st (expr-start bare st))
+    expr-by-fails bare (Free n e) x = fails-next (ExprUp names s bytes bare st) (own_of e st) _ (own-faulty (ExprUp names s bytes bare st) e st (expr-start bare st))
         (λ t o. tt)
-    expr-by-fails bare (Bound i e) x = fails-next (ExprUp bare st) (own_of e st) _ (own-faulty (ExprUp bare st) e st (expr-start bare st))
+    expr-by-fails bare (Bound i e) x = fails-next (ExprUp names s bytes bare st) (own_of e st) _ (own-faulty (ExprUp names s bytes bare st) e st (expr-start bare st))
         (λ t o. tt)
-    expr-by-fails bare (Literal e) x = fails-next (ExprUp bare st) (own_of e st) _ (own-faulty (ExprUp bare st) e st (expr-start bare st))
+    expr-by-fails bare (Literal e) x = fails-next (ExprUp names s bytes bare st) (own_of e st) _ (own-faulty (ExprUp names s bytes bare st) e st (expr-start bare st))
         (λ t o. tt)
-    expr-by-fails bare (Atomic c e) x = fails-next (ExprUp bare st) (own_of e st) _ (own-faulty (ExprUp bare st) e st (expr-start bare st))
+    expr-by-fails bare (Atomic c e) x = fails-next (ExprUp names s bytes bare st) (own_of e st) _ (own-faulty (ExprUp names s bytes bare st) e st (expr-start bare st))
         (λ t o. tt)
     expr-by-fails bare (Extension n e) x =
-        fails-next (ExprUp bare st) (own_of e st) _ (own-faulty (ExprUp bare st) e st (expr-start bare st))
-        (λ t o. fails-last (λ u a. ExprsRead names s bytes (suc d) n t a u) (ExprsUp n t) (ExprUp bare st) (many none more (X false) n t) (extension st.at.0) (all_read names s bytes d left l X Q hX hQ st n t) (all-fails n t)
+        fails-next (ExprUp names s bytes bare st) (own_of e st) _ (own-faulty (ExprUp names s bytes bare st) e st (expr-start bare st))
+        (λ t o. fails-last (λ u a. ExprsRead names s bytes (suc d) n t a u) (ExprsUp names s bytes n t) (ExprUp names s bytes bare st) (many none more (X false) n t) (extension st.at.0) (all_read names s bytes d left l X Q hX hQ st n t) (all-fails n t)
         (λ q u. (extension 0 u.0, (λ z. refl), (rw u.1 x.0, u.2), rw u.1 (upto-after s (step-own s e st t _ o x.1).stand u.3))))
     expr-by-fails bare (Truth e) x =
-        fails-next (ExprUp bare st) (own_of e st) _ (own-faulty (ExprUp bare st) e st (expr-start bare st))
-        (λ t o. fails-last (λ u a. PredRead names s bytes (suc d) t a u) (PredUp t) (ExprUp bare st) (Q t) (truth st.at.0) (hQ t) (fQ t)
+        fails-next (ExprUp names s bytes bare st) (own_of e st) _ (own-faulty (ExprUp names s bytes bare st) e st (expr-start bare st))
+        (λ t o. fails-last (λ u a. PredRead names s bytes (suc d) t a u) (PredUp names s bytes t) (ExprUp names s bytes bare st) (Q t) (truth st.at.0) (hQ t) (fQ t)
         (λ q u. (truth 0 u.0, (λ z. refl), u.1, upto-after s (step-own s e st t _ o x).stand u.2)))
     expr-by-fails bare (Binary c e) x =
-        fails-next (ExprUp bare st) (own_of e st) _ (own-faulty (ExprUp bare st) e st (expr-start bare st))
-        (λ t o. fails-then (λ u a. ExprRead names s bytes (suc d) false t a u) (ExprUp false t) (ExprUp bare st) (X false t) _ (hX false t) (fX false t)
+        fails-next (ExprUp names s bytes bare st) (own_of e st) _ (own-faulty (ExprUp names s bytes bare st) e st (expr-start bare st))
+        (λ t o. fails-then (λ u a. ExprRead names s bytes (suc d) false t a u) (ExprUp names s bytes false t) (ExprUp names s bytes bare st) (X false t) _ (hX false t) (fX false t)
         (λ q u. (binary 0 c u.0 (literal 0), (λ z. refl), (x.0, u.2, tt), upto-after s (step-own s e st t _ o x.1).stand (upto-first s u.3 (0x03 ∷ []))))
-        (λ a v r. fails-last (λ u b. ExprRead names s bytes (suc d) false v b u) (ExprUp false v) (ExprUp bare st) (X false v) (binary st.at.0 c a) (hX false v) (fX false v)
+        (λ a v r. fails-last (λ u b. ExprRead names s bytes (suc d) false v b u) (ExprUp names s bytes false v) (ExprUp names s bytes bare st) (X false v) (binary st.at.0 c a) (hX false v) (fX false v)
         (λ q u. (binary 0 c a u.0, (λ z. refl), (x.0, shape_of r, u.2), upto-after s (step-own s e st t _ o x.1).stand (upto-after s r.step.stand u.3)))))
     expr-by-fails bare (Associative c n e) x =
-        fails-next (ExprUp bare st) (own_of e st) _ (own-faulty (ExprUp bare st) e st (expr-start bare st))
-        (λ t o. fails-last (λ u a. ExprsRead names s bytes (suc d) n t a u) (ExprsUp n t) (ExprUp bare st) (many none more (X false) n t) (associative st.at.0 c) (all_read names s bytes d left l X Q hX hQ st n t) (all-fails n t)
+        fails-next (ExprUp names s bytes bare st) (own_of e st) _ (own-faulty (ExprUp names s bytes bare st) e st (expr-start bare st))
+        (λ t o. fails-last (λ u a. ExprsRead names s bytes (suc d) n t a u) (ExprsUp names s bytes n t) (ExprUp names s bytes bare st) (many none more (X false) n t) (associative st.at.0 c) (all_read names s bytes d left l X Q hX hQ st n t) (all-fails n t)
         (λ q u. (associative 0 c u.0, (λ z. refl), (x.0, rw u.1 x.1, u.2), rw u.1 (upto-after s (step-own s e st t _ o x.2).stand u.3))))
     expr-by-fails bare (Unary c e) x =
-        fails-next (ExprUp bare st) (own_of e st) _ (own-faulty (ExprUp bare st) e st (expr-start bare st))
-        (λ t o. fails-last (λ u a. ExprRead names s bytes (suc d) false t a u) (ExprUp false t) (ExprUp bare st) (X false t) (unary st.at.0 c) (hX false t) (fX false t)
+        fails-next (ExprUp names s bytes bare st) (own_of e st) _ (own-faulty (ExprUp names s bytes bare st) e st (expr-start bare st))
+        (λ t o. fails-last (λ u a. ExprRead names s bytes (suc d) false t a u) (ExprUp names s bytes false t) (ExprUp names s bytes bare st) (X false t) (unary st.at.0 c) (hX false t) (fX false t)
         (λ q u. (unary 0 c u.0, (λ z. refl), (x.0, u.2), upto-after s (step-own s e st t _ o x.1).stand u.3)))
     expr-by-fails bare (Quantified c n e) x =
-        fails-closing (ExprUp bare st) st.opened (on_next (own_of e st) _)
-        (fails-next (ExprUp bare st) (own_of e st) _ (own-faulty (ExprUp bare st) e st (expr-start bare st))
-        (λ t o. fails-then (λ u a. DeclsRead names s bytes (suc d) n t a u) (DeclsUp names s bytes n t) (ExprUp bare st) (decls_at names s left n t) _ (sound-decls names s bytes (suc d) left l n t) (decls-fails left (suc d) l n t)
+        fails-closing (ExprUp names s bytes bare st) st.opened (on_next (own_of e st) _)
+        (fails-next (ExprUp names s bytes bare st) (own_of e st) _ (own-faulty (ExprUp names s bytes bare st) e st (expr-start bare st))
+        (λ t o. fails-then (λ u a. DeclsRead names s bytes (suc d) n t a u) (DeclsUp names s bytes n t) (ExprUp names s bytes bare st) (decls_at names s left n t) _ (sound-decls names s bytes (suc d) left l n t) (decls-fails left (suc d) l n t)
         (λ q u. (quantified 0 c u.0 (constant 0) (literal 0), (λ z. refl), (x.0, rw u.1 x.1, u.2, tt, tt), rw u.1 (upto-after s (step-own s e st t _ o x.2).stand (upto-first s u.3 (0x20 ∷ 0x03 ∷ [])))))
-        (λ ds v g. fails-then (λ u b. PredRead names s bytes (suc d) v b u) (PredUp v) (ExprUp bare st) (Q v) _ (hQ v) (fQ v)
+        (λ ds v g. fails-then (λ u b. PredRead names s bytes (suc d) v b u) (PredUp names s bytes v) (ExprUp names s bytes bare st) (Q v) _ (hQ v) (fQ v)
         (λ q u. (quantified 0 c ds u.0 (literal 0), (λ z. refl), (x.0, rw g.count x.1, fits-decls names (suc d) ds g.fits, u.1, tt), rw g.count (upto-after s (step-own s e st t _ o x.2).stand (upto-after s g.step.stand (upto-first s u.2 (0x03 ∷ []))))))
-        (λ b w r. fails-last (λ u a. ExprRead names s bytes (suc d) false w a u) (ExprUp false w) (ExprUp bare st) (X false w) (quantified st.at.0 c ds b) (hX false w) (fX false w)
+        (λ b w r. fails-last (λ u a. ExprRead names s bytes (suc d) false w a u) (ExprUp names s bytes false w) (ExprUp names s bytes bare st) (X false w) (quantified st.at.0 c ds b) (hX false w) (fX false w)
         (λ q u. (quantified 0 c ds b u.0, (λ z. refl), (x.0, rw g.count x.1, fits-decls names (suc d) ds g.fits, shape_pred_of r, u.2), rw g.count (upto-after s (step-own s e st t _ o x.2).stand (upto-after s g.step.stand (upto-after s r.step.stand u.3)))))))))
     expr-by-fails bare (Ascribed e) x =
-        fails-next (ExprUp bare st) (own_of e st) _ (own-faulty (ExprUp bare st) e st (expr-start bare st))
-        (λ t o. fails-then (λ u a. ExprRead names s bytes (suc d) false t a u) (ExprUp false t) (ExprUp bare st) (X false t) _ (hX false t) (fX false t)
+        fails-next (ExprUp names s bytes bare st) (own_of e st) _ (own-faulty (ExprUp names s bytes bare st) e st (expr-start bare st))
+        (λ t o. fails-then (λ u a. ExprRead names s bytes (suc d) false t a u) (ExprUp names s bytes false t) (ExprUp names s bytes bare st) (X false t) _ (hX false t) (fX false t)
         (λ q u. (ascribed 0 u.0 0 no_type_lem, (λ z. refl), (u.2, none-shape), upto-after s (step-own s e st t _ o x).stand (upto-first s u.3 _)))
-        (λ a v r. fails-then (λ u b. SpellingRead names s bytes (suc d) v b u) (SpellingUp names s bytes v) (ExprUp bare st) (spelling_in names s left v) _ (sound_spelling names s bytes (suc d) left l v) (spelling_fails left v (suc d) l)
+        (λ a v r. fails-then (λ u b. SpellingRead names s bytes (suc d) v b u) (SpellingUp names s bytes v) (ExprUp names s bytes bare st) (spelling_in names s left v) _ (sound_spelling names s bytes (suc d) left l v) (spelling_fails left v (suc d) l)
         (λ q u. (ascribed 0 a 0 u.0, (λ z. refl), (shape_of r, u.1), upto-after s (step-own s e st t _ o x).stand (upto-after s r.step.stand u.2))) (λ b w q. tt)))
     expr-by-fails bare (Explicit e) x =
-        fails-then (λ t a. TypeRead names s bytes (suc d) (moved e st) a t) (TypeUp names s bytes (moved e st)) (ExprUp bare st) (type_in names s left (moved e st)) _ (sound-type names s bytes (suc d) left l (moved e st)) (type-fails left (moved e st))
+        fails-then (λ t a. TypeRead names s bytes (suc d) (moved e st) a t) (TypeUp names s bytes (moved e st)) (ExprUp names s bytes bare st) (type_in names s left (moved e st)) _ (sound-type names s bytes (suc d) left l (moved e st)) (type-fails left (moved e st))
         (λ q u. (explicit 0 u.0 (literal 0), not_here bare x.0, (u.1, refl, tt), upto-after s (step-moved s st _ e x.1).stand (upto-first s u.2 (0x03 ∷ []))))
-        (λ a t r. fails-last (λ u b. ExprRead names s bytes (suc d) true t b u) (ExprUp true t) (ExprUp bare st) (X true t) (explicit st.at.0 a) (hX true t) (fX true t)
+        (λ a t r. fails-last (λ u b. ExprRead names s bytes (suc d) true t b u) (ExprUp names s bytes true t) (ExprUp names s bytes bare st) (X true t) (explicit st.at.0 a) (hX true t) (fX true t)
         (λ q u. (explicit 0 a u.0, not_here bare x.0, (type-below r, (let z = u.1 refl in cc), u.2), upto-after s (step-moved s st _ e x.1).stand (upto-after s r.step.stand u.3))))
 
-    pred_by-fails : (h : PredHead) → PredSays s st.at.0 (P.Is h) → Fails (PredUp st) (pred_by names s left X Q st h)
+    pred_by-fails : (h : PredHead) → PredSays s st.at.0 (P.Is h) → Fails (PredUp names s bytes st) (pred_by names s left X Q st h)
     unfolding pred_by PredSays Fails ExprUp PredUp ExprsUp PredsUp DeclsUp ShapePred spell_pred
     pred_by-fails (Constant e) x = tt
     pred_by-fails (Variable e) x = tt
     pred_by-fails (Relational c e) x =
-        fails-then (λ u a. ExprRead names s bytes (suc d) false (moved e st) a u) (ExprUp false (moved e st)) (PredUp st) (X false (moved e st)) _ (hX false (moved e st)) (fX false (moved e st))
+        fails-then (λ u a. ExprRead names s bytes (suc d) false (moved e st) a u) (ExprUp names s bytes false (moved e st)) (PredUp names s bytes st) (X false (moved e st)) _ (hX false (moved e st)) (fX false (moved e st))
         (λ q u. (relational 0 c u.0 (literal 0), (x.0, u.2, literal-shape), upto-after s (step-moved s st _ e x.1).stand (upto-first s u.3 _)))
-        (λ a v r. fails-last (λ u b. ExprRead names s bytes (suc d) false v b u) (ExprUp false v) (PredUp st) (X false v) (relational st.at.0 c a) (hX false v) (fX false v)
+        (λ a v r. fails-last (λ u b. ExprRead names s bytes (suc d) false v b u) (ExprUp names s bytes false v) (PredUp names s bytes st) (X false v) (relational st.at.0 c a) (hX false v) (fX false v)
         (λ q u. (relational 0 c a u.0, (x.0, shape_of r, u.2), upto-after s (step-moved s st _ e x.1).stand (upto-after s r.step.stand u.3))))
     pred_by-fails (Connective e) x =
-        fails-then (λ u a. PredRead names s bytes (suc d) (moved e st) a u) (PredUp (moved e st)) (PredUp st) (Q (moved e st)) _ (hQ (moved e st)) (fQ (moved e st))
+        fails-then (λ u a. PredRead names s bytes (suc d) (moved e st) a u) (PredUp names s bytes (moved e st)) (PredUp names s bytes st) (Q (moved e st)) _ (hQ (moved e st)) (fQ (moved e st))
         (λ q u. (connective 0 u.0 (constant 0), (u.1, tt), upto-after s (step-moved s st _ e x).stand (upto-first s u.2 (0x20 ∷ []))))
-        (λ a v r. fails-last (λ u b. PredRead names s bytes (suc d) v b u) (PredUp v) (PredUp st) (Q v) (connective st.at.0 a) (hQ v) (fQ v)
+        (λ a v r. fails-last (λ u b. PredRead names s bytes (suc d) v b u) (PredUp names s bytes v) (PredUp names s bytes st) (Q v) (connective st.at.0 a) (hQ v) (fQ v)
         (λ q u. (connective 0 a u.0, (shape_pred_of r, u.1), upto-after s (step-moved s st _ e x).stand (upto-after s r.step.stand u.2))))
     pred_by-fails (Junction n e) x =
-        fails-last (λ u a. PredsRead names s bytes (suc d) n (moved e st) a u) (PredsUp n (moved e st)) (PredUp st) (many end also Q n (moved e st)) (junction st.at.0) (preds-read names s bytes d left l X Q hX hQ st n (moved e st)) (preds-fails n (moved e st))
+        fails-last (λ u a. PredsRead names s bytes (suc d) n (moved e st) a u) (PredsUp names s bytes n (moved e st)) (PredUp names s bytes st) (many end also Q n (moved e st)) (junction st.at.0) (preds-read names s bytes d left l X Q hX hQ st n (moved e st)) (preds-fails n (moved e st))
         (λ q u. (junction 0 u.0, (rw u.1 x.0, u.2), rw u.1 (upto-after s (step-moved s st _ e x.1).stand u.3)))
     pred_by-fails (Negation e) x =
-        fails-last (λ u a. PredRead names s bytes (suc d) (moved e st) a u) (PredUp (moved e st)) (PredUp st) (Q (moved e st)) (negation st.at.0) (hQ (moved e st)) (fQ (moved e st))
+        fails-last (λ u a. PredRead names s bytes (suc d) (moved e st) a u) (PredUp names s bytes (moved e st)) (PredUp names s bytes st) (Q (moved e st)) (negation st.at.0) (hQ (moved e st)) (fQ (moved e st))
         (λ q u. (negation 0 u.0, u.1, upto-after s (step-moved s st _ e x).stand u.2))
     pred_by-fails (Quantification n e) x =
-        fails-closing (PredUp st) st.opened (and_then (decls_at names s left n (moved e st)) _)
-        (fails-then (λ u a. DeclsRead names s bytes (suc d) n (moved e st) a u) (DeclsUp names s bytes n (moved e st)) (PredUp st) (decls_at names s left n (moved e st)) _ (sound-decls names s bytes (suc d) left l n (moved e st)) (decls-fails left (suc d) l n (moved e st))
+        fails-closing (PredUp names s bytes st) st.opened (and_then (decls_at names s left n (moved e st)) _)
+        (fails-then (λ u a. DeclsRead names s bytes (suc d) n (moved e st) a u) (DeclsUp names s bytes n (moved e st)) (PredUp names s bytes st) (decls_at names s left n (moved e st)) _ (sound-decls names s bytes (suc d) left l n (moved e st)) (decls-fails left (suc d) l n (moved e st))
         (λ q u. (quantification 0 u.0 (constant 0), (rw u.1 x.0, u.2, tt), rw u.1 (upto-after s (step-moved s st _ e x.1).stand (upto-first s u.3 (0x20 ∷ [])))))
-        (λ ds v g. fails-last (λ u b. PredRead names s bytes (suc d) v b u) (PredUp v) (PredUp st) (Q v) (quantification st.at.0 ds) (hQ v) (fQ v)
+        (λ ds v g. fails-last (λ u b. PredRead names s bytes (suc d) v b u) (PredUp names s bytes v) (PredUp names s bytes st) (Q v) (quantification st.at.0 ds) (hQ v) (fQ v)
         (λ q u. (quantification 0 ds u.0, (rw g.count x.0, fits-decls names (suc d) ds g.fits, u.1), rw g.count (upto-after s (step-moved s st _ e x.1).stand (upto-after s g.step.stand u.2))))))
     pred_by-fails (Simple e) x =
-        fails-last (λ u a. ExprRead names s bytes (suc d) false (moved e st) a u) (ExprUp false (moved e st)) (PredUp st) (X false (moved e st)) (simple st.at.0) (hX false (moved e st)) (fX false (moved e st))
+        fails-last (λ u a. ExprRead names s bytes (suc d) false (moved e st) a u) (ExprUp names s bytes false (moved e st)) (PredUp names s bytes st) (X false (moved e st)) (simple st.at.0) (hX false (moved e st)) (fX false (moved e st))
         (λ q u. (simple 0 u.0, u.2, upto-after s (step-moved s st _ e x).stand u.3))
     pred_by-fails (Multiple n e) x =
-        fails-last (λ u a. ExprsRead names s bytes (suc d) n (moved e st) a u) (ExprsUp n (moved e st)) (PredUp st) (many none more (X false) n (moved e st)) (multiple st.at.0) (all_read names s bytes d left l X Q hX hQ st n (moved e st)) (all-fails n (moved e st))
+        fails-last (λ u a. ExprsRead names s bytes (suc d) n (moved e st) a u) (ExprsUp names s bytes n (moved e st)) (PredUp names s bytes st) (many none more (X false) n (moved e st)) (multiple st.at.0) (all_read names s bytes d left l X Q hX hQ st n (moved e st)) (all-fails n (moved e st))
         (λ q u. (multiple 0 u.0, (rw u.1 x.0, u.2), rw u.1 (upto-after s (step-moved s st _ e x.1).stand u.3)))
     pred_by-fails (Application n e) x =
-        fails-last (λ u a. ExprsRead names s bytes (suc d) n (moved e st) a u) (ExprsUp n (moved e st)) (PredUp st) (many none more (X false) n (moved e st)) (application st.at.0) (all_read names s bytes d left l X Q hX hQ st n (moved e st)) (all-fails n (moved e st))
+        fails-last (λ u a. ExprsRead names s bytes (suc d) n (moved e st) a u) (ExprsUp names s bytes n (moved e st)) (PredUp names s bytes st) (many none more (X false) n (moved e st)) (application st.at.0) (all_read names s bytes d left l X Q hX hQ st n (moved e st)) (all-fails n (moved e st))
         (λ q u. (application 0 u.0, u.2, rw u.1 (upto-after s (step-moved s st _ e x).stand u.3)))
 
-    expr_if_fails : (bare : Bool) (h : ExprAt) → ExprSays names s bare st.at.0 h → Fails (ExprUp bare st) (expr_if names s left X Q st h)
+    expr_if_fails : (bare : Bool) (h : ExprAt) → ExprSays names s bare st.at.0 h → Fails (ExprUp names s bytes bare st) (expr_if names s left X Q st h)
     unfolding expr_if Fails
     expr_if_fails bare E.Wrong x = expr-start bare st
     expr_if_fails bare (E.Is h) x = expr-by-fails bare h x
 
-    pred_if_fails : (h : PredAt) → PredSays s st.at.0 h → Fails (PredUp st) (pred_if names s left X Q st h)
+    pred_if_fails : (h : PredAt) → PredSays s st.at.0 h → Fails (PredUp names s bytes st) (pred_if names s left X Q st h)
     unfolding pred_if Fails
     pred_if_fails P.Wrong x = pred_start st
     pred_if_fails (P.Is h) x = pred_by-fails h x
 
-  expr-deep-fails : (bare : Bool) (st : St) (h : ExprAt) → Fails (ExprUp bare st) (expr_deep st h)
+  expr-deep-fails : (bare : Bool) (st : St) (h : ExprAt) → Fails (ExprUp names s bytes bare st) (expr_deep st h)
   unfolding expr_deep Fails
   expr-deep-fails bare st E.Wrong = expr-start bare st
   expr-deep-fails bare st (E.Is h) = expr-start bare st
 
-  pred_deep-fails : (st : St) (h : PredAt) → Fails (PredUp st) (pred_deep st h)
+  pred_deep-fails : (st : St) (h : PredAt) → Fails (PredUp names s bytes st) (pred_deep st h)
   unfolding pred_deep Fails
   pred_deep-fails st P.Wrong = pred_start st
   pred_deep-fails st (P.Is h) = pred_start st
@@ -384,7 +371,7 @@ module _ (names : ℕ) (s : List ℕ) (bytes : (i : ℕ) → get_or s i 0 < 256)
   mutual
     unfolding expr_at pred_at
 
-    pub expr-fails : (left d : ℕ) → d + left ≡ levels → (bare : Bool) (st : St) → Fails (ExprUp bare st) (expr_at left names s bare st)
+    pub expr-fails : (left d : ℕ) → d + left ≡ levels → (bare : Bool) (st : St) → Fails (ExprUp names s bytes bare st) (expr_at left names s bare st)
     expr-fails zero d l bare st = expr-deep-fails bare st (expr_head names s bare st.at)
     expr-fails (suc left) d l bare st =
         expr_if_fails d left (let i : suc d + left ≡ levels = omega arith in i) (λ b t. expr_at left names s b t) (λ t. pred_at left names s t)
@@ -392,7 +379,7 @@ module _ (names : ℕ) (s : List ℕ) (bytes : (i : ℕ) → get_or s i 0 < 256)
         (λ b t. expr-fails left (suc d) (let i : suc d + left ≡ levels = omega arith in i) b t) (λ t. pred_fails left (suc d) (let i : suc d + left ≡ levels = omega arith in i) t)
         st bare (expr_head names s bare st.at) (expr-says names s bytes bare st.at)
 
-    pub pred_fails : (left d : ℕ) → d + left ≡ levels → (st : St) → Fails (PredUp st) (pred_at left names s st)
+    pub pred_fails : (left d : ℕ) → d + left ≡ levels → (st : St) → Fails (PredUp names s bytes st) (pred_at left names s st)
     pred_fails zero d l st = pred_deep-fails st (pred_head s st.at)
     pred_fails (suc left) d l st =
         pred_if_fails d left (let i : suc d + left ≡ levels = omega arith in i) (λ b t. expr_at left names s b t) (λ t. pred_at left names s t)
@@ -440,15 +427,12 @@ module _ (names : ℕ) (s : List ℕ) (bytes : (i : ℕ) → get_or s i 0 < 256)
     unfolding targets_at
     targets-fails n st = fails-many [] ◌∷◌ (target_in names s) (TargetRead names s bytes) (TargetUp names s bytes some) (TargetsUp names s bytes some) (sound-target names s bytes) target-fails targets-first targets-later n st
 
-    pub PairUp : St → ℕ → Type 0
-    PairUp st q = (a : Target × Expr) × (a.0.name < names) × Shape names a.1 × UpTo s st.at.0 q (spell_target a.0 ++ spell a.1)
-
-    pair-fails : (st : St) → Fails (PairUp st) (pair_in max_depth names s st)
+    pair-fails : (st : St) → Fails (PairUp names s bytes some st) (pair_in max_depth names s st)
     unfolding pair_in PairUp TargetUp ExprUp
     pair-fails st =
-        fails-then (λ t a. TargetRead names s bytes st a t) (TargetUp names s bytes some st) (PairUp st) (target_in names s st) _ (sound-target names s bytes st) (target-fails st)
+        fails-then (λ t a. TargetRead names s bytes st a t) (TargetUp names s bytes some st) (PairUp names s bytes some st) (target_in names s st) _ (sound-target names s bytes st) (target-fails st)
         (λ q u. ((u.0, literal 0), u.1, literal-shape, upto-first s u.2 (spell (literal 0))))
-        (λ a t r. fails-last (λ u b. ExprRead names s bytes 1 false t b u) (ExprUp false t) (PairUp st) (expr_at max_depth names s false t) (λ b. (a, b)) (sound-expr names s bytes max_depth 1 refl false t) (expr-fails max_depth 1 refl false t)
+        (λ a t r. fails-last (λ u b. ExprRead names s bytes 1 false t b u) (ExprUp names s bytes false t) (PairUp names s bytes some st) (expr_at max_depth names s false t) (λ b. (a, b)) (sound-expr names s bytes max_depth 1 refl false t) (expr-fails max_depth 1 refl false t)
         (λ q u. ((a, u.0), r.fits, u.2, upto-after s r.step.stand u.3)))
 
     pairs_of : ℕ → List (Target × Expr)
@@ -460,26 +444,23 @@ module _ (names : ℕ) (s : List ℕ) (bytes : (i : ℕ) → get_or s i 0 < 256)
     pairs_of_good zero = (refl, tt)
     pairs_of_good (suc n) = let h = pairs_of_good n in (ap suc h.0, (some, literal-shape, h.1))
 
-    pub PairsUp : ℕ → St → ℕ → Type 0
-    PairsUp n st q = (xs : List (Target × Expr)) × (pairs xs ≡ n) × ShapePairs names xs × UpTo s st.at.0 q (spell_pairs xs)
-
     same_row : (x y z : List ℕ) → x ++ (y ++ z) ≡ (x ++ y) ++ z
     same_row x y z = sym (append_assoc x y z)
 
-    pairs_first : (n : ℕ) (st : St) (q : ℕ) → PairUp st q → PairsUp (suc n) st q
+    pairs_first : (n : ℕ) (st : St) (q : ℕ) → PairUp names s bytes some st q → PairsUp names s bytes some (suc n) st q
     unfolding PairUp PairsUp ShapePairs pairs spell_pairs
     pairs_first n st q u =
         let h = pairs_of_good n in
         (u.0 ∷ pairs_of n, ap suc h.0, (u.1, u.2, h.1), rw (same_row (spell_target u.0.0) (spell u.0.1) (spell_pairs (pairs_of n))) (upto-first s u.3 (spell_pairs (pairs_of n))))
 
-    pairs-later : (n : ℕ) (st t : St) (a : Target × Expr) (q : ℕ) → PairRead names s bytes st a t → PairsUp n t q → PairsUp (suc n) st q
+    pairs-later : (n : ℕ) (st t : St) (a : Target × Expr) (q : ℕ) → PairRead names s bytes st a t → PairsUp names s bytes some n t q → PairsUp names s bytes some (suc n) st q
     unfolding PairsUp ShapePairs pairs spell_pairs
     pairs-later n st t a q r w =
         (a ∷ w.0, ap suc w.1, (r.target_fits, fits-shape a.1 names 1 st.opened r.fits, w.2), rw (same_row (spell_target a.0) (spell a.1) (spell_pairs w.0)) (upto-after s r.step.stand w.3))
 
-    pairs-fails : (n : ℕ) (st : St) → Fails (PairsUp n st) (pairs_at max_depth names s n st)
+    pairs-fails : (n : ℕ) (st : St) → Fails (PairsUp names s bytes some n st) (pairs_at max_depth names s n st)
     unfolding pairs_at
-    pairs-fails n st = fails-many [] ◌∷◌ (pair_in max_depth names s) (PairRead names s bytes) PairUp PairsUp (sound-pair names s bytes) pair-fails pairs_first pairs-later n st
+    pairs-fails n st = fails-many [] ◌∷◌ (pair_in max_depth names s) (PairRead names s bytes) (PairUp names s bytes some) (PairsUp names s bytes some) (sound-pair names s bytes) pair-fails pairs_first pairs-later n st
 
     module _ (st : St) where
       becomes-by-fails : (n : ℕ) (e : Place) (k : ℕ) → Stand s st.at.0 (k ∷ n ∷ []) e.0 → Fails (FormulaUp names s bytes st) (becomes_by max_depth names s n e st k)
@@ -487,21 +468,21 @@ module _ (names : ℕ) (s : List ℕ) (bytes : (i : ℕ) → get_or s i 0 < 256)
       becomes-by-fails zero e k x = formula-start st
       becomes-by-fails (suc n) e k x =
           choose S k 0x30 _ _
-          (λ h. fails-last (λ u a. Unit {0}) (PairsUp (suc n) (moved e st)) (FormulaUp names s bytes st) (pairs_at max_depth names s (suc n) (moved e st)) (becomes st.at.0) (holds-any (pairs_at max_depth names s (suc n) (moved e st))) (pairs-fails (suc n) (moved e st))
+          (λ h. fails-last (λ u a. Unit {0}) (PairsUp names s bytes some (suc n) (moved e st)) (FormulaUp names s bytes st) (pairs_at max_depth names s (suc n) (moved e st)) (becomes st.at.0) (holds-any (pairs_at max_depth names s (suc n) (moved e st))) (pairs-fails (suc n) (moved e st))
           (λ q u. (becomes 0 u.0, (least u.1, u.2), rw u.1 (upto-after s (head 0x30 h) u.3))))
           (choose S k 0x31 _ _
           (λ h. fails-then (λ u a. TargetRead names s bytes (moved e st) a u) (TargetUp names s bytes some (moved e st)) (FormulaUp names s bytes st) (target_in names s (moved e st)) _ (sound-target names s bytes (moved e st)) (target-fails (moved e st))
           (λ q u. let z = zeroths-good n in (becomes_in 0 u.0 (zeroths n) (literal 0), (u.1, z.1, literal-shape), rw z.0 (upto-after s (head 0x31 h) (upto-first s u.2 (spell_targets (zeroths n) ++ spell (literal 0))))))
           (λ a v r. fails-then (λ u b. TargetsRead names s bytes n v b u) (TargetsUp names s bytes some n v) (FormulaUp names s bytes st) (targets_at names s n v) _ (sound-targets names s bytes n v) (targets-fails n v)
           (λ q u. (becomes_in 0 a u.0 (literal 0), (r.fits, u.2, literal-shape), rw u.1 (upto-after s (head 0x31 h) (upto-after s r.step.stand (upto-first s u.3 (spell (literal 0)))))))
-          (λ b w g. fails-last (λ u f. ExprRead names s bytes 1 false w f u) (ExprUp false w) (FormulaUp names s bytes st) (expr_at max_depth names s false w) (becomes_in st.at.0 a b) (sound-expr names s bytes max_depth 1 refl false w) (expr-fails max_depth 1 refl false w)
+          (λ b w g. fails-last (λ u f. ExprRead names s bytes 1 false w f u) (ExprUp names s bytes false w) (FormulaUp names s bytes st) (expr_at max_depth names s false w) (becomes_in st.at.0 a b) (sound-expr names s bytes max_depth 1 refl false w) (expr-fails max_depth 1 refl false w)
           (λ q u. (becomes_in 0 a b u.0, (r.fits, fits-targets names b g.fits, u.2), rw g.count (upto-after s (head 0x31 h) (upto-after s r.step.stand (upto-after s g.step.stand u.3))))))))
           (choose S k 0x32 _ _
           (λ h. fails-then (λ u a. TargetsRead names s bytes (suc n) (moved e st) a u) (TargetsUp names s bytes some (suc n) (moved e st)) (FormulaUp names s bytes st) (targets_at names s (suc n) (moved e st)) _ (sound-targets names s bytes (suc n) (moved e st)) (targets-fails (suc n) (moved e st))
           (λ q u. let z = plains-good (suc n) in (becomes_such 0 u.0 (plains (suc n)) (constant 0), (least u.1, u.1 ∙ sym z.0, u.2, z.1, constant-shape), rw u.1 (upto-after s (head 0x32 h) (upto-first s u.3 (spell_decls (plains (suc n)) ++ spell_pred (constant 0))))))
           (λ a v r. fails-then (λ u b. DeclsRead names s bytes 1 (suc n) v b u) (DeclsUp names s bytes (suc n) v) (FormulaUp names s bytes st) (decls_at names s max_depth (suc n) v) _ (sound-decls names s bytes 1 max_depth refl (suc n) v) (decls-fails max_depth 1 refl (suc n) v)
           (λ q u. (becomes_such 0 a u.0 (constant 0), (least r.count, r.count ∙ sym u.1, fits-targets names a r.fits, u.2, constant-shape), rw r.count (upto-after s (head 0x32 h) (upto-after s r.step.stand (upto-first s u.3 (spell_pred (constant 0)))))))
-          (λ b w g. fails-last (λ u f. PredRead names s bytes 1 w f u) (PredUp w) (FormulaUp names s bytes st) (pred_at max_depth names s w) (becomes_such st.at.0 a b) (sound_pred names s bytes max_depth 1 refl w) (pred_fails max_depth 1 refl w)
+          (λ b w g. fails-last (λ u f. PredRead names s bytes 1 w f u) (PredUp names s bytes w) (FormulaUp names s bytes st) (pred_at max_depth names s w) (becomes_such st.at.0 a b) (sound_pred names s bytes max_depth 1 refl w) (pred_fails max_depth 1 refl w)
           (λ q u. (becomes_such 0 a b u.0, (least r.count, r.count ∙ sym g.count, fits-targets names a r.fits, fits-decls names 1 b g.fits, u.1), rw r.count (upto-after s (head 0x32 h) (upto-after s r.step.stand (upto-after s g.step.stand u.2)))))))) (formula-start st)))
         where
           S : Got Formula → Type 0
@@ -528,10 +509,10 @@ module _ (names : ℕ) (s : List ℕ) (bytes : (i : ℕ) → get_or s i 0 < 256)
     root-by-fails k q x some = go (ltb k 0x20) (ltb k 0x30) refl
       where
         as_expr : Fails (FormulaUp names s bytes st) (and_then (expr_at levels names s false st) λ a st₁. ok st₁ (expression a))
-        as_expr = fails-last (λ u a. ExprRead names s bytes 0 false st a u) (ExprUp false st) (FormulaUp names s bytes st) (expr_at levels names s false st) expression (sound-expr names s bytes levels 0 refl false st) (expr-fails levels 0 refl false st) (λ q u. (expression u.0, u.2, u.3))
+        as_expr = fails-last (λ u a. ExprRead names s bytes 0 false st a u) (ExprUp names s bytes false st) (FormulaUp names s bytes st) (expr_at levels names s false st) expression (sound-expr names s bytes levels 0 refl false st) (expr-fails levels 0 refl false st) (λ q u. (expression u.0, u.2, u.3))
 
         as_pred : Fails (FormulaUp names s bytes st) (and_then (pred_at levels names s st) λ q st₁. ok st₁ (predicate q))
-        as_pred = fails-last (λ u a. PredRead names s bytes 0 st a u) (PredUp st) (FormulaUp names s bytes st) (pred_at levels names s st) predicate (sound_pred names s bytes levels 0 refl st) (pred_fails levels 0 refl st) (λ q u. (predicate u.0, u.1, u.2))
+        as_pred = fails-last (λ u a. PredRead names s bytes 0 st a u) (PredUp names s bytes st) (FormulaUp names s bytes st) (pred_at levels names s st) predicate (sound_pred names s bytes levels 0 refl st) (pred_fails levels 0 refl st) (λ q u. (predicate u.0, u.1, u.2))
 
         go : (b c : Bool) → ltb k 0x30 ≡ c → Fails (FormulaUp names s bytes st) (pick b (and_then (expr_at levels names s false st) λ a st₁. ok st₁ (expression a)) (pick c (and_then (pred_at levels names s st) λ q st₁. ok st₁ (predicate q)) (becomes_at names s st k q)))
         go true true e = as_expr

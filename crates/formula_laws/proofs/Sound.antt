@@ -34,7 +34,7 @@ use Rattle.types.specs.Limits.{max_depth, max_opened, levels}
 use Rattle.formula_laws.specs.Fits.{is_bare, FitsTy, FitsSpelling, FitsDecl, FitsDecls, Fits, FitsAll, FitsPred, FitsPreds, FitsPairs, FitsRoot}
 use Rattle.formula_laws.specs.Sizes.{length_ty, length_decl, length-decls, length-expr, length_pred, length-targets}
 use Rattle.formula_laws.specs.Says.{Stand, stand_join, on_byte_lem, on-few, choose, ExprSays, PredSays, DeclSays, expr-says, pred_says, decl_says}
-use Rattle.formula_laws.specs.Sound.{Holds, Step, TypeRead, step-moved, holds_then, SpellingRead, step_join, holds-next, DeclRead, step-declare, step-none, DeclsRead, step_as, holds-many, ExprRead, ExprsRead, PredRead, PredsRead, step-own, TargetRead, PairRead, sound-target, PairsRead, sound-targets, TargetsRead, FormulaRead}
+use Rattle.formula_laws.specs.Sound.{Holds, Step, step-moved, TypeRead, SpellingRead, holds_then, holds-next, DeclRead, step-declare, step_join, step-none, DeclsRead, step_as, holds-many, ExprRead, ExprsRead, PredRead, PredsRead, step-own, PairRead, sound-target, TargetRead, PairsRead, FormulaRead, sound-targets, TargetsRead}
 
 holds-closing : {A : Type 0} (S : St → A → Type 0) (n : ℕ) (g : Got A) → Holds (λ t a. S (closed n t) a) g → Holds S (closing n g)
 unfolding Holds closing

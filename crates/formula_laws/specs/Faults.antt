@@ -3,9 +3,10 @@
 -- (An assignment's targets need a name: where none is known, no assignment can be completed. So a name is asked for where the first byte is 0x30 or above.)
 use Prim.Native.Nat.{ℕ, zero, suc, ◌<◌}
 use native.Mathlib.Omega.{arith}
-use Rattle.std.specs.Prelude.{◌≡◌, get_or}
+use Rattle.std.specs.Prelude.{◌≡◌, Bool, get_or}
 use Rattle.std.proofs.Math.Path.{refl, sym, ap}
 use Rattle.std.proofs.Common.{◌∙◌}
+use Rattle.std.proofs.Math.Bool.{true}
 use mathlib.Core.List.{List, [], ◌∷◌, ◌++◌, append_assoc}
 use Rattle.types.specs.Ty as T
 use Rattle.types.specs.Ty.{Ty}
@@ -13,12 +14,13 @@ use Rattle.types.specs.Faults as TF
 use Rattle.types.specs.Faults.{Way, Leads}
 use Rattle.formula.specs.declared.St.{St}
 use Rattle.formula.specs.declared.Fault.TheVariants.{Malformed, Beyond}
-use Rattle.formula.specs.Tree.{Spelling, Decl, Target, Formula, decls, targets}
-use Rattle.formula.specs.Spell.{spell_spelling, spell_decl, spell_decls, spell, spell_target, spell_targets, spell_formula}
+use Rattle.formula.specs.Tree.{Spelling, Decl, Expr, Exprs, Pred, Preds, Target, Formula, decls, exprs, preds, targets, pairs}
+use Rattle.formula.specs.Spell.{spell_spelling, spell_decl, spell_decls, spell, spell_all, spell_pred, spell_preds, spell_target, spell_targets, spell_pairs, spell_formula}
 use Rattle.heads.specs.Heads.{place}
 use Rattle.formula.specs.Reader.{Got, ok, bad}
+use Rattle.formula_laws.specs.Fits.{is_bare}
 use Rattle.formula_laws.specs.Says.{Stand, stand_join}
-use Rattle.formula_laws.specs.Shape.{ShapeSpelling, ShapeDecl, ShapeDecls, ShapeTargets, ShapeFormula}
+use Rattle.formula_laws.specs.Shape.{ShapeSpelling, ShapeDecl, ShapeDecls, Shape, ShapeAll, ShapePred, ShapePreds, ShapeTargets, ShapePairs, ShapeFormula}
 
 -- the bytes from p up to q begin the word w
 pub record UpTo (s : List ℕ) (p q : ℕ) (w : List ℕ) : Type 0 where
@@ -88,6 +90,19 @@ module _ (names : ℕ) (s : List ℕ) (bytes : (i : ℕ) → get_or s i 0 < 256)
   unfoldable pub DeclsUp : ℕ → St → ℕ → Type 0
   DeclsUp n st q = (xs : List Decl) × (decls xs ≡ n) × ShapeDecls names xs × UpTo s st.at.0 q (spell_decls xs)
 
+  -- ---- expressions and predicates
+  unfoldable pub ExprUp : Bool → St → ℕ → Type 0
+  ExprUp bare st q = (a : Expr) × (bare ≡ true → is_bare a ≡ true) × Shape names a × UpTo s st.at.0 q (spell a)
+
+  unfoldable pub PredUp : St → ℕ → Type 0
+  PredUp st q = (a : Pred) × ShapePred names a × UpTo s st.at.0 q (spell_pred a)
+
+  unfoldable pub ExprsUp : ℕ → St → ℕ → Type 0
+  ExprsUp n st q = (es : Exprs) × (exprs es ≡ n) × ShapeAll names es × UpTo s st.at.0 q (spell_all es)
+
+  unfoldable pub PredsUp : ℕ → St → ℕ → Type 0
+  PredsUp n st q = (qs : Preds) × (preds qs ≡ n) × ShapePreds names qs × UpTo s st.at.0 q (spell_preds qs)
+
   -- ---- formulas
   unfoldable pub FormulaUp : St → ℕ → Type 0
   FormulaUp st q = (a : Formula) × ShapeFormula names a × UpTo s st.at.0 q (spell_formula a)
@@ -99,3 +114,9 @@ module _ (names : ℕ) (s : List ℕ) (bytes : (i : ℕ) → get_or s i 0 < 256)
 
     unfoldable pub TargetsUp : ℕ → St → ℕ → Type 0
     TargetsUp n st q = (ts : List Target) × (targets ts ≡ n) × ShapeTargets names ts × UpTo s st.at.0 q (spell_targets ts)
+
+    unfoldable pub PairUp : St → ℕ → Type 0
+    PairUp st q = (a : Target × Expr) × (a.0.name < names) × Shape names a.1 × UpTo s st.at.0 q (spell_target a.0 ++ spell a.1)
+
+    unfoldable pub PairsUp : ℕ → St → ℕ → Type 0
+    PairsUp n st q = (xs : List (Target × Expr)) × (pairs xs ≡ n) × ShapePairs names xs × UpTo s st.at.0 q (spell_pairs xs)
