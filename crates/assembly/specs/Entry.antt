@@ -18,14 +18,17 @@ use Rattle.types.specs.Limits.{max_names}
 use Rattle.formula.specs.Parse.{Parsed, parsed, too_long, faulty, parse_of, form_of}
 use Rattle.formula.specs.Tree.{Formula}
 use Rattle.formula_laws.specs.Fits.{FitsTy, FitsFormula}
-use Rattle.formula_laws.specs.Exact.{Spelled, parsed-is-spelled}
-use Rattle.formula_laws.specs.ExactEnvironment.{FitsEntries, SpelledEntries, parsed-entries-spelled}
+use Rattle.formula_laws.specs.Exact.{Spelled}
+use Rattle.formula_laws.proofs.Exact.{parsed-is-spelled}
+use Rattle.formula_laws.specs.ExactEnvironment.{FitsEntries, SpelledEntries}
+use Rattle.formula_laws.proofs.ExactEnvironment.{parsed-entries-spelled}
 use Rattle.unification.specs.Arena.{U}
 use Rattle.inference.specs.Answer as I
 use Rattle.inference.specs.Answer.{refused, written}
 use Rattle.inference.specs.Finish.{Outcome, typed, failed}
 use Rattle.inference.specs.Infer.{either, sized, concluded, fitting, answer, answered, blamed, formed, infer_of, output_after, work_after, zeros}
-use Rattle.inference.specs.Sizes.{Sized, sized-holds}
+use Rattle.inference.specs.Sizes.{Sized}
+use Rattle.inference.proofs.Sizes.{sized-holds}
 use Rattle.machine.specs.Machine.{Mach}
 use Rattle.forms.specs.Forms.{test, then}
 use Rattle.walker.specs.Root.{formula_of}

@@ -14,19 +14,22 @@ use Rattle.formula.specs.Tree.{Formula}
 use Rattle.formula_laws.specs.Fits.{FitsFormula}
 use Rattle.unification.specs.Arena.{Words, U}
 use Rattle.unification.specs.Trees.{var}
-use Rattle.unification.specs.Ops.{Bench, Ready, Sound, Ran, nodes, exec, exec_metered, exec-exact, exec_full}
+use Rattle.unification.specs.Ops.{Bench, Ready, Sound, Ran, nodes, exec}
+use Rattle.unification.proofs.Ops.{exec_metered, exec-exact, exec_full}
 use Rattle.walk.specs.Writer.{Row}
 use Rattle.walk.specs.Walk.{walked}
-use Rattle.walk.specs.Safe.{RowIn, SlotsIn, safe-formula}
+use Rattle.walk.specs.Safe.{RowIn, SlotsIn}
+use Rattle.walk.proofs.Safe.{safe-formula}
 use Rattle.walk.specs.Whole.{none_found}
 use Rattle.walk.specs.Verdict.{start}
 use Rattle.inference.specs.Answer.{Problem, spell_problems, spell_slots}
 use Rattle.inference.specs.Finish.{names, Outcome, typed, failed, finish}
-use Rattle.inference.specs.Rows.{Every, found-asked}
-use Rattle.inference.specs.Conclude.{finish-exact}
+use Rattle.inference.specs.Rows.{Every}
+use Rattle.inference.proofs.Rows.{found-asked}
+use Rattle.inference.proofs.Conclude.{finish-exact}
 use Rattle.inference.specs.Conclude as C
 use Rattle.inference.specs.Infer.{concluded}
-use Rattle.inference.specs.Memory.{concluded_anywhere}
+use Rattle.inference.proofs.Memory.{concluded_anywhere}
 use Rattle.machine.specs.Machine.{Mach}
 use Rattle.finisher.specs.Finisher.{most, finish_of, write_answer_of}
 use Rattle.simulation.specs.Relation.{Wrote, Stands, Listed, Filled}

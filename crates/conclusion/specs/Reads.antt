@@ -13,7 +13,7 @@ use Rattle.unification.specs.Put.{bind_inv}
 use Rattle.inference.specs.Answer.{Problem}
 use Rattle.inference.specs.Finish.{Finding, found, unsolved, Question, Findings, noted, ask}
 use Rattle.inference.specs.Finish as F
-use Rattle.inference.specs.Cost as C
+use Rattle.inference.proofs.Cost as C
 
 module _ (ws : Words) (n top : ℕ) where
   -- the types of these questions, in order, under their keys

@@ -11,7 +11,7 @@ use Rattle.unification.specs.Arena.{U, solved}
 use Rattle.inference.specs.Answer.{Problem, spell_problem, spell_problems}
 use Rattle.inference.specs.Finish.{Finding, found, unsolved, Question, Findings, noted, ask}
 use Rattle.inference.specs.Finish as F
-use Rattle.inference.specs.Cost as C
+use Rattle.inference.proofs.Cost as C
 use Rattle.machine.specs.declared.State.{State}
 use Rattle.forms.specs.Forms.{test, then}
 use Rattle.machine.specs.Machine.{Mach, with_st, left_of, stopped_of, list_of}

@@ -17,7 +17,7 @@ use Rattle.walk.specs.Writer.{Row}
 use Rattle.inference.specs.Answer.{Problem, two, four, spell_slot, spell_slots}
 use Rattle.inference.specs.Finish.{Question, Findings, ask, names, Outcome, typed, failed, settled, test_slots, walk_problems, finish}
 use Rattle.inference.specs.Finish as F
-use Rattle.inference.specs.Cost.{ask_metered}
+use Rattle.inference.proofs.Cost.{ask_metered}
 use Rattle.machine.specs.declared.State.{State}
 use Rattle.forms.specs.Forms.{test, then}
 use Rattle.machine.specs.Machine.{Mach, cell, word_of, emit_of, two_of, four_of}

@@ -13,7 +13,6 @@ pub mod Faults
 pub mod FaultPlace
 pub mod EnvironmentFault
 pub mod Stays
-pub mod EnvironmentStays
 pub mod Due
 pub mod FaultMeans
 pub mod EnvironmentMeans

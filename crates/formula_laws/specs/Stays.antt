@@ -46,8 +46,8 @@ use Rattle.types.specs.Limits.{max_bytes, max_depth, max_slots, max_opened, leve
 use Rattle.formula_laws.specs.Fits.{is_bare, FitsTy, FitsSpelling, FitsDecl, FitsDecls, Fits, FitsAll, FitsPred, FitsPreds, FitsTargets, FitsPairs, FitsRoot, FitsFormula}
 use Rattle.formula_laws.specs.Sizes.{length_ty, length_spelling, length_decl, length-decls, length-expr, length-all, length_pred, length-preds, length-targets, length_pairs}
 use Rattle.formula_laws.specs.Says.{Stand, stand_join, on_byte_lem, on-few, choose, ExprSays, PredSays, DeclSays, TargetSays, expr-says, pred_says, decl_says, target-says}
-use Rattle.formula_laws.specs.Shape.{ShapeSpelling, ShapeDecl, ShapeDecls, Shape, ShapeAll, ShapePred, ShapePreds, ShapeTargets, ShapePairs, ShapeFormula, fits_spelling, fits_decl, fits-decls, fits-shape, fits_all, fits_pred, fits-preds, fits-targets}
-use Rattle.formula_laws.specs.Sound.{Holds, Step, TypeRead, SpellingRead, DeclRead, DeclsRead, ExprRead, ExprsRead, PredRead, PredsRead, TargetRead, TargetsRead, PairRead, step-own, step-declare, step-moved, sound-type, sound_spelling, sound_decl, sound-decls, sound-expr, sound_pred, sound-target, sound-targets, sound-pair, expr-by, pred_by_lem, all_read, preds-read}
+use Rattle.formula_laws.specs.Shape.{ShapeSpelling, ShapeDecl, ShapeDecls, Shape, ShapeAll, ShapePred, ShapePreds, ShapeTargets, ShapePairs, ShapeFormula, fits-targets}
+use Rattle.formula_laws.specs.Sound.{Holds, Step, TypeRead, SpellingRead, DeclRead, DeclsRead, ExprRead, ExprsRead, PredRead, PredsRead, TargetRead, TargetsRead, PairRead, step-own, step-declare, step-moved, sound-target, sound-targets}
 
 -- where a fault is
 unfoldable pub at_fault : Fault → ℕ

@@ -17,9 +17,11 @@ use Rattle.formula.specs.Tree.{Formula}
 use Rattle.unification.specs.Arena.{U, resolve, unify}
 use Rattle.unification.specs.Trees.{var}
 use Rattle.unification.specs.Laws.{after}
-use Rattle.unification.specs.Ops.{Op, Bench, Ready, Sound, sound-split, nodes, exec, exec_full}
-use Rattle.unification.specs.Exec.{Counts, exec-counts}
-use Rattle.unification.specs.Short.{exec-short, exec-short-within}
+use Rattle.unification.specs.Ops.{Op, Bench, Ready, Sound, sound-split, nodes, exec}
+use Rattle.unification.proofs.Ops.{exec_full}
+use Rattle.unification.specs.Exec.{Counts}
+use Rattle.unification.proofs.Exec.{exec-counts}
+use Rattle.unification.proofs.Short.{exec-short, exec-short-within}
 use Rattle.walk.specs.Walk.{walked}
 use Rattle.walk.specs.Triple.{nodes-append}
 use Rattle.walk.specs.Verdict.{start}

@@ -1,13 +1,10 @@
 pub mod Answer
 pub mod Finish
 pub mod Infer
-pub mod Cost
 pub mod Rows
 pub mod Conclude
 pub mod Cases
 pub mod Sizes
 pub mod Numbers
-pub mod Budget
-pub mod Memory
 pub mod Chains
 pub mod AnyDirection

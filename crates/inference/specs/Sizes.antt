@@ -1,6 +1,6 @@
 -- Row 2 of the table: the sizes. `sized-holds` reads the test as its six conditions; a stream inside them is never too long to be read.
-use Rattle.std.specs.Prelude.{ℕ, zero, suc, ◌+◌, ◌*◌, ◌≤◌, ◌<◌, ◌≡◌, refl, ◌↔◌, Bool, true, false, ◌&&◌, List, [], ◌∷◌, ◌++◌, leb, ltb, length}
-use Rattle.std.proofs.Common.{sym, ◌∙◌, ap, subst, arith, leb-true, le-leb, le-ltb}
+use Rattle.std.specs.Prelude.{ℕ, zero, suc, ◌+◌, ◌*◌, ◌≤◌, ◌≡◌, refl, Bool, true, false, List, [], ◌∷◌, ◌++◌, ltb, length}
+use Rattle.std.proofs.Common.{sym, ◌∙◌, ap, subst, le-ltb}
 use Rattle.types.specs.declared.Place.{Place}
 use Rattle.types.specs.Record.{TypeAt, got, malformed, deep, type_at}
 use Rattle.heads.specs.declared.Word.{Word}
@@ -11,8 +11,6 @@ use Rattle.types.specs.Limits.{max_bytes, max_depth, max_names, max_capacity, bo
 use Rattle.formula.specs.Reader.{Got, ok, bad}
 use Rattle.formula.specs.Parse.{Parsed, parsed, too_long, faulty, parsed_by, whole, parse_of}
 use Rattle.formula.specs.EnvParse.{entry_at, typed_by, fresh_by, entry_by, entries_from, capped, environment_of}
-use Rattle.unification.specs.Trees.{and_left, and_right}
-use Rattle.inference.specs.Infer.{sized}
 
 -- ---- the sizes of row 2: lengths of formula and environment, count of names, capacity, length of the work slice
 pub record Sized (formula environment names capacity work : ℕ) : Type 0 where
@@ -22,33 +20,6 @@ pub record Sized (formula environment names capacity work : ℕ) : Type 0 where
   pub capacity_some : 1 ≤ capacity
   pub capacity_small : capacity ≤ max_capacity
   pub work_long : 3 * capacity + book ≤ work
-
-six : (a b c d e f : Bool) → a && b && c && d && e && f ≡ true → (a ≡ true) × (b ≡ true) × (c ≡ true) × (d ≡ true) × (e ≡ true) × (f ≡ true)
-six a b c d e f t =
-    let t₅ = and_left (a && b && c && d && e) f t in
-    let t₄ = and_left (a && b && c && d) e t₅ in
-    let t₃ = and_left (a && b && c) d t₄ in
-    let t₂ = and_left (a && b) c t₃ in
-    (and_left a b t₂, and_right a b t₂, and_right (a && b) c t₃, and_right (a && b && c) d t₄, and_right (a && b && c && d) e t₅, and_right (a && b && c && d && e) f t)
-
-all_six : (a b c d e f : Bool) → a ≡ true → b ≡ true → c ≡ true → d ≡ true → e ≡ true → f ≡ true → a && b && c && d && e && f ≡ true
-all_six a b c d e f h i j k l m = rw (h, i, j, k, l, m) refl
-
-pub sized-holds : (f e n c w : ℕ) → Sized f e n c w ↔ (sized f e n c w ≡ true)
-unfolding sized
-sized-holds f e n c w = (
-  λ s. all_six _ _ _ _ _ _ (le-leb f _ s.formula_short) (le-leb e _ s.environment_short) (le-leb n _ s.names_few) (le-leb _ c (omega (arith, s.capacity_some))) (le-leb c _ s.capacity_small) (le-leb _ w s.work_long),
-  λ t. (
-      let h = six _ _ _ _ _ _ t in
-      record {
-        formula_short = leb-true f _ h.0;
-        environment_short = leb-true e _ h.1;
-        names_few = leb-true n _ h.2;
-        capacity_some = omega (arith, leb-true _ c h.3);
-        capacity_small = leb-true c _ h.4;
-        work_long = leb-true _ w h.5;
-      }),
-)
 
 -- ---- what is read is too long only past the limit
 abbrev Short : {A : Type 0} → Parsed A → Type 0

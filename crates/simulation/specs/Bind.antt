@@ -8,8 +8,10 @@ use Rattle.meter.specs.Meter.{Out, spent, halt, done, broken, full, M, on}
 use Rattle.meter.specs.Meter as Mt
 use Rattle.formula.specs.Environment.{Env}
 use Rattle.unification.specs.Arena.{U}
-use Rattle.unification.specs.Ops.{Bench, Sound, sound-split, nodes, exec, exec-append}
-use Rattle.unification.specs.Exec.{Counts, exec-counts}
+use Rattle.unification.specs.Ops.{Bench, Sound, sound-split, nodes, exec}
+use Rattle.unification.proofs.Ops.{exec-append}
+use Rattle.unification.specs.Exec.{Counts}
+use Rattle.unification.proofs.Exec.{exec-counts}
 use Rattle.walk.specs.Writer.{Row, Walk, W, glue, ◌>>=◌}
 use Rattle.machine.specs.Machine.{Mach, cell}
 use Rattle.simulation.specs.Relation.{Slots, Filled, Ended, Runs}

@@ -28,7 +28,7 @@ use Rattle.meter.specs.Meter.{Out}
 use Rattle.unification.specs.Arena.{U}
 use Rattle.unification.specs.Make.{builds_unknown}
 use Rattle.unification.specs.Ops.{Bench, exec}
-use Rattle.unification.specs.Exec.{exec_nil}
+use Rattle.unification.proofs.Exec.{exec_nil}
 use Rattle.walk.specs.Writer.{Row, find, done, ◌>>=◌, enter, own, unknown, problem}
 use Rattle.walk.specs.Walk.{meets, spelled, ascription, claim, at_decl, declare, over}
 use Rattle.inference.specs.Finish.{names}

@@ -12,9 +12,11 @@ use Rattle.formula.specs.Environment.{Env}
 use Rattle.unification.specs.Arena.{U, Words, decode, Verdict, unified, mismatch, circular, Answer, unify}
 use Rattle.unification.specs.Good.{Inside, push_at, length_push}
 use Rattle.unification.specs.Make.{build, Builds, make-done, make_full}
-use Rattle.unification.specs.Unifies.{Kept, Outcome, unify-exact}
+use Rattle.unification.specs.Unifies.{Kept, Outcome}
+use Rattle.unification.proofs.Unifies.{unify-exact}
 use Rattle.unification.specs.Ops.{make, compare, list, Bench, Sound, exec, grow, learn, complain, noted, grown-ready, learnt_ready, complain-ready}
-use Rattle.unification.specs.Exec.{exec_nil, exec-made, exec_no_room, exec-compared, exec-listed, grow-count, grow-words, grow-problems, learn-count, learn-words, learn-problems, complain-count, complain-words, complain-problems, noted_unified, noted_mismatch, noted_circular}
+use Rattle.unification.specs.Exec.{grow-count, grow-words, grow-problems, learn-count, learn-words, learn-problems, complain-count, complain-words, complain-problems, noted_unified, noted_mismatch, noted_circular}
+use Rattle.unification.proofs.Exec.{exec_nil, exec-made, exec_no_room, exec-compared, exec-listed}
 use Rattle.walk.specs.Writer.{Row, node, same, problem}
 use Rattle.inference.specs.Answer.{spell_problems}
 use Rattle.inference.specs.Finish.{walk_problems}

@@ -13,7 +13,7 @@ use Rattle.meter.specs.Meter as Mt
 use Rattle.formula.specs.Environment.{Entry, lacks, holds, Env}
 use Rattle.unification.specs.Arena.{U}
 use Rattle.unification.specs.Ops.{pay, Bench, Sound, exec}
-use Rattle.unification.specs.Exec.{exec_unpaid, exec-paid}
+use Rattle.unification.proofs.Exec.{exec_unpaid, exec-paid}
 use Rattle.walk.specs.Writer.{Row, Found, at, absent, find, W, enter, own}
 use Rattle.inference.specs.Finish.{Question, names}
 use Rattle.machine.specs.declared.State.{State}

@@ -8,7 +8,7 @@ use Rattle.meter.specs.Meter as Mt
 use Rattle.unification.specs.Arena.{U}
 use Rattle.formula.specs.Environment.{Env}
 use Rattle.unification.specs.Ops.{Bench, exec}
-use Rattle.unification.specs.Exec.{exec_nil}
+use Rattle.unification.proofs.Exec.{exec_nil}
 use Rattle.walk.specs.Writer.{Row, find, Walk, W, done}
 use Rattle.inference.specs.Finish.{names}
 use Rattle.machine.specs.declared.State.{State}

@@ -18,8 +18,9 @@ use Rattle.unification.specs.Trees.{var}
 use Rattle.unification.specs.Ops.{Bench, exec}
 use Rattle.walk.specs.Writer.{Row, find, Walk}
 use Rattle.walk.specs.Walk.{walk_formula, walked}
-use Rattle.walk.specs.Safe.{RowIn, safe-formula}
-use Rattle.walk.specs.Whole.{tame_formula}
+use Rattle.walk.specs.Safe.{RowIn}
+use Rattle.walk.proofs.Safe.{safe-formula}
+use Rattle.walk.proofs.Whole.{tame_formula}
 use Rattle.walk.specs.Verdict.{start}
 use Rattle.inference.specs.Answer.{spell_problems}
 use Rattle.inference.specs.Finish.{names, walk_problems}

@@ -6,12 +6,13 @@ use Rattle.formula.specs.Tree.{Formula}
 use Rattle.formula.specs.Environment.{Entries, lookup}
 use Rattle.formula.specs.Parse.{parsed, parse_of}
 use Rattle.formula.specs.EnvParse.{environment_of}
-use Rattle.formula_laws.specs.Exact.{Spelled, spelled-is-parsed, parsed-is-spelled}
-use Rattle.formula_laws.specs.ExactEnvironment.{SpelledEntries, spelled-entries-parsed, parsed-entries-spelled}
+use Rattle.formula_laws.specs.Exact.{Spelled}
+use Rattle.formula_laws.proofs.Exact.{spelled-is-parsed, parsed-is-spelled}
+use Rattle.formula_laws.specs.ExactEnvironment.{SpelledEntries}
+use Rattle.formula_laws.proofs.ExactEnvironment.{spelled-entries-parsed, parsed-entries-spelled}
 use Rattle.inference.specs.Infer.{answer, infer_of}
 use Rattle.inference.specs.Numbers.{Sized, Walks}
-use Rattle.inference.specs.Budget.{price, outcome, outcome-holds, given}
-use Rattle.soundness.specs.Verdict.{Verdict, verdict}
+use Rattle.inference.proofs.Budget.{price, outcome, given}
 
 -- the environment's bytes spell the entries es, the formula's the tree f, inside the limits
 pub record Spells (formula environment : List ℕ) (names : ℕ) (es : Entries) (f : Formula) : Type 0 where
@@ -58,6 +59,3 @@ module _ (formula environment : List ℕ) (names capacity budget room work : ℕ
     pub answer-is : infer_of formula environment names capacity budget room work ≡ answer (price (lookup es) f) (outcome (lookup es) f)
     answer-is = (given formula environment names capacity budget room work judged).is
         ∙ ap₂ (λ (ds : Entries) (g : Formula). answer (price (lookup ds) g) (outcome (lookup ds) g)) same_entries same-tree
-
-    pub outcome-verdict : Verdict (lookup es) f (outcome (lookup es) f)
-    outcome-verdict = verdict (lookup es) f (outcome (lookup es) f) (outcome-holds (lookup es) f)

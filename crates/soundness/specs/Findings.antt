@@ -11,11 +11,13 @@ use Rattle.typing.specs.Typings.{named_entries, name_entries}
 use Rattle.unification.specs.Good.{Assignment}
 use Rattle.walk.specs.Writer.{Met, Row, at, find}
 use Rattle.walk.specs.Walk.{walked}
-use Rattle.walk.specs.Names.{unheld, row_lacking, walk-names}
+use Rattle.walk.specs.Names.{unheld, row_lacking}
+use Rattle.walk.proofs.Names.{walk-names}
 use Rattle.walk.specs.Readings.{SlotAt, told_slots}
 use Rattle.inference.specs.Answer.{Problem}
 use Rattle.inference.specs.Finish.{Finding, found, unsolved, Question, Findings, noted, ask_name, names, slots}
-use Rattle.inference.specs.Rows.{Every, found-asked}
+use Rattle.inference.specs.Rows.{Every}
+use Rattle.inference.proofs.Rows.{found-asked}
 use Rattle.inference.specs.Conclude.{Judge, Told, told_none, told}
 use Rattle.soundness.specs.Listing.{AllOf}
 

@@ -3,7 +3,4 @@ pub mod Findings
 pub mod Excluded
 pub mod Verdict
 pub mod Calls
-pub mod Judge
 pub mod Price
-pub mod Soundness
-pub mod Examples

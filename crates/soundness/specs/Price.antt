@@ -13,7 +13,7 @@ use Rattle.inference.specs.Finish.{Outcome, typed, failed}
 use Rattle.inference.specs.Infer.{either, fitting, answer, infer_of}
 use Rattle.inference.specs.Numbers.{Sized}
 use Rattle.inference.specs.Conclude.{size}
-use Rattle.inference.specs.Budget.{price, outcome, fill, nodes_fit, nodes_full, given, enough, too_little}
+use Rattle.inference.proofs.Budget.{price, outcome, fill, nodes_fit, nodes_full, given, enough, too_little}
 use Rattle.soundness.specs.Calls.{Reads, walks, answer-is}
 
 -- ---- an answer 0 or 1

@@ -3,7 +3,6 @@ pub mod Grammar
 pub mod Token
 pub mod Parse
 pub mod Reads
-pub mod Canonical
 pub mod Accepts
 pub mod Places
 pub mod Steps

@@ -20,7 +20,7 @@ use Rattle.type_grammar.specs.Grammar.{Denotes, whole}
 use Rattle.type_grammar.specs.Parse.{product_of, ends_at, parse}
 use Rattle.type_grammar.specs.Reads.{whole-is-read, denoted_is-read}
 use Rattle.type_grammar.specs.Accepts.{and_first, ends-got, accepted_denotes}
-use Rattle.type_grammar.specs.Canonical.{text-denotes}
+use Rattle.type_grammar.proofs.Canonical.{text-denotes}
 use Rattle.type_grammar.specs.Places.{Verdict, misfit, too_deep, verdict, judged, place_rule}
 use Rattle.type_text.specs.declared.Answer.{Answer}
 use Rattle.type_text.specs.declared.Answer.TheVariants.{Done, Bad, Malformed, Deep, NoRoom}

@@ -13,13 +13,17 @@ use Rattle.meter.specs.Meter.{done, Costs, exact-done}
 use Rattle.types.specs.Ty.{Ty, pow}
 use Rattle.unification.specs.Arena.{Words, node_at, left_bound, resolve, solved, read, Verdict, unified, unify}
 use Rattle.unification.specs.Good.{Assignment, Admits}
-use Rattle.unification.specs.Laws.{Reached, called, after, unify_success, unify_failure, unify-steps, solved-law, read-law}
+use Rattle.unification.specs.Laws.{Reached, called, after}
+use Rattle.unification.proofs.Laws.{unify_success, unify_failure, unify-steps, solved-law, read-law}
 use Rattle.unification.specs.History.{after-done}
-use Rattle.unification.specs.Ops.{Op, make, Bench, exec, grow, nodes, Sound, Meets, Admitted, Ready, Judged, clean, hopeless, exec-exact}
-use Rattle.unification.specs.Short.{resolve-short}
-use Rattle.unification.specs.Direction.{left_binds}
-use Rattle.unification.specs.Runs.{Runs, every-run}
-use Rattle.unification.specs.Exec.{exec_nil, exec-made, grow-count, grow-problems}
+use Rattle.unification.specs.Ops.{Op, make, Bench, exec, grow, nodes, Sound, Meets, Admitted, Ready, Judged, clean, hopeless}
+use Rattle.unification.proofs.Ops.{exec-exact}
+use Rattle.unification.proofs.Short.{resolve-short}
+use Rattle.unification.proofs.Direction.{left_binds}
+use Rattle.unification.specs.Runs.{Runs}
+use Rattle.unification.proofs.Runs.{every-run}
+use Rattle.unification.specs.Exec.{grow-count, grow-problems}
+use Rattle.unification.proofs.Exec.{exec_nil, exec-made}
 
 -- a comparison that was answered is one more step of the history
 pub compared : {n : ℕ} {ws : Words} → Reached n ws → (a b β r : ℕ) (v : Verdict) (ws' : Words) → unify n (ws, a, b) β ≡ done (v, ws') r → Reached n ws'

@@ -1,7 +1,6 @@
 pub mod Writer
 pub mod Scripts
 pub mod Walk
-pub mod Cases
 pub mod Tables
 pub mod Triple
 pub mod Pieces

@@ -1,19 +1,18 @@
 -- A script amounts to a rule, and the tables of scripts amount to the tables of rules: shown once for all operators.
 -- After this file a reader knows that every operator's nodes and comparisons say exactly what its typing rule says.
-use Rattle.std.specs.Prelude.{ℕ, zero, suc, ◌+◌, ◌*◌, ◌≤◌, ◌<◌, ◌≡◌, Bool, true, false, ◌&&◌, eqb, ltb, leb, length}
+use Rattle.std.specs.Prelude.{ℕ, suc, ◌+◌, ◌<◌, ◌≡◌, Bool, true, false, ◌&&◌, eqb, ltb, leb, length}
 use Rattle.std.proofs.Math.Path.{refl, sym, ap, ap₂}
-use Rattle.std.proofs.Common.{◌∙◌, subst, arith, eqb-true, eq-eqb, ne_eqb, ltb-true}
+use Rattle.std.proofs.Common.{◌∙◌, arith, eq-eqb, ne_eqb, ltb-true}
 use mathlib.Core.List.{List, [], ◌∷◌, ◌++◌}
 use Rattle.std.proofs.Math.Decide.{ℕ_discrete}
 use Rattle.types.specs.Ty.{bool, int, Ty, base, pow, prod}
-use Rattle.formula.specs.Environment.{holds}
 use Rattle.unification.specs.Trees.{and_left, and_right}
 use Rattle.unification.specs.Good.{Assignment}
 use Rattle.unification.specs.Ops.{nodes, Meets}
-use Rattle.typing.specs.Equations.{Form, letter, part, BOOL, ℤ, ℙ, ◌⨯◌, ◌≐◌, ◌⟷◌, a, c, d, T, Rule, read, Hold, parts, Many, alike, chain, no_rule, first_of, look, never, never_typed}
-use Rattle.typing.specs.Rules.{atomic_rules, binary_rules, associative_rules, unary_rules, quantified_rules, relational_rules, types}
+use Rattle.typing.specs.Equations.{Form, letter, part, BOOL, ℤ, ℙ, ◌⨯◌, ◌≐◌, ◌⟷◌, c, d, T, Rule, read, Hold, Many, alike, chain, no_rule, first_of, look, never_typed}
+use Rattle.typing.specs.Rules.{quantified_rules}
 use Rattle.walk.specs.Writer.{own}
-use Rattle.walk.specs.Scripts.{Ref, arg, new, Item, an_unknown, a_bool, an_int, a_power, a_pair, equal, Script, pick, play, scripted, never_items, never_script, atomic_scripts, binary_scripts, unary_scripts, quantified_scripts, relational_scripts, Gather, all_as, linked, no_script, associative_scripts}
+use Rattle.walk.specs.Scripts.{Ref, arg, new, Item, an_unknown, a_bool, an_int, a_power, a_pair, equal, Script, pick, play, scripted, never_items, never_script, quantified_scripts, Gather, all_as, linked, no_script}
 
 -- f holds the types vs from k on
 abbrev pub Carries : (ℕ → Ty) → ℕ → List Ty → Type 0
@@ -89,35 +88,15 @@ unfolding look rows
 look-map f [] z o = refl
 look-map f (x ∷ xs) z o = first_of-map f (leb o x.0) x.1 (look xs z o) ∙ ap (first_of (leb o x.0) (f x.1)) (look-map f xs z o)
 
-pub atomic-table : (o : ℕ) → rule_of (look atomic_scripts never_script o) ≡ look atomic_rules never_typed o
-unfolding rule_of rows claims equations outcome locals form put first_of scripted atomic_scripts never_script atomic_rules never_typed ◌⟷◌
-atomic-table o = look-map rule_of atomic_scripts never_script o
-
-pub binary-table : (o : ℕ) → rule_of (look binary_scripts never_script o) ≡ look binary_rules never_typed o
-unfolding rule_of rows claims equations outcome locals form put first_of scripted binary_scripts never_script binary_rules never_typed ◌⟷◌
-binary-table o = look-map rule_of binary_scripts never_script o
-
-pub unary-table : (o : ℕ) → rule_of (look unary_scripts never_script o) ≡ look unary_rules never_typed o
-unfolding rule_of rows claims equations outcome locals form put first_of scripted unary_scripts never_script unary_rules never_typed ◌⟷◌
-unary-table o = look-map rule_of unary_scripts never_script o
-
 pub quantified-table : (o : ℕ) → rule_of (look quantified_scripts never_script o) ≡ look quantified_rules never_typed o
 unfolding rule_of rows claims equations outcome locals form put first_of scripted quantified_scripts never_script quantified_rules never_typed ◌⟷◌
 quantified-table o = look-map rule_of quantified_scripts never_script o
-
-pub relational-table : (o : ℕ) → claims (look relational_scripts never_items o) ≡ look relational_rules never o
-unfolding rows claims equations form put first_of relational_scripts never_items relational_rules never
-relational-table o = look-map claims relational_scripts never_items o
 
 unfoldable pub many_of : Gather → Many
 unfolding outcome
 many_of (all_as s) = alike (outcome s) (outcome s)
 many_of (linked way) = chain way
 many_of no_script = no_rule
-
-pub associative-table : (o : ℕ) → many_of (look associative_scripts no_script o) ≡ look associative_rules no_rule o
-unfolding many_of rows outcome locals form put first_of scripted associative_scripts associative_rules ◌⟷◌
-associative-table o = look-map many_of associative_scripts no_script o
 
 -- ---- references stay inside: parts up to the arity, own nodes already made
 unfoldable pub ref_ok : ℕ → ℕ → Ref → Bool
@@ -152,25 +131,9 @@ unfolding look all_rows
 look-true f [] z o e = e
 look-true f (x ∷ xs) z o e = first_of-true f (leb o x.0) x.1 (look xs z o) (and_left (f x.1) (all_rows f xs z) e) (look-true f xs z o (and_right (f x.1) (all_rows f xs z) e))
 
-pub atomic-fits : (o : ℕ) → fits 0 (look atomic_scripts never_script o) ≡ true
-unfolding all_rows fits scoped ref_ok made scripted atomic_scripts never_script never_items
-atomic-fits o = look-true (fits 0) atomic_scripts never_script o refl
-
-pub binary-fits : (o : ℕ) → fits 2 (look binary_scripts never_script o) ≡ true
-unfolding all_rows fits scoped ref_ok made scripted binary_scripts never_script never_items
-binary-fits o = look-true (fits 2) binary_scripts never_script o refl
-
-pub unary-fits : (o : ℕ) → fits 1 (look unary_scripts never_script o) ≡ true
-unfolding all_rows fits scoped ref_ok made scripted unary_scripts never_script never_items
-unary-fits o = look-true (fits 1) unary_scripts never_script o refl
-
 pub quantified-fits : (o : ℕ) → fits 1 (look quantified_scripts never_script o) ≡ true
 unfolding all_rows fits scoped ref_ok made scripted quantified_scripts never_script never_items
 quantified-fits o = look-true (fits 1) quantified_scripts never_script o refl
-
-pub relational-fits : (o : ℕ) → scoped 2 0 (look relational_scripts never_items o) ≡ true
-unfolding all_rows scoped ref_ok relational_scripts never_items
-relational-fits o = look-true (scoped 2 0) relational_scripts never_items o refl
 
 unfoldable pub silent : Rule → Bool
 silent [] = true
@@ -187,10 +150,6 @@ unfolding fits silent claims
 gathers (all_as s) = fits 0 s && silent (claims s.items)
 gathers (linked way) = true
 gathers no_script = true
-
-pub associative-fits : (o : ℕ) → gathers (look associative_scripts no_script o) ≡ true
-unfolding all_rows gathers silent claims equations fits scoped ref_ok made scripted associative_scripts
-associative-fits o = look-true gathers associative_scripts no_script o refl
 
 -- ---- both directions, for types ν of the letters and xs of the parts
 module _ (σ : Assignment) (ν xs : ℕ → Ty) (args places : ℕ → ℕ) (n k : ℕ) (parts-read : (i : ℕ) → leb 1 i && leb i k ≡ true → σ (args i) ≡ xs i) where

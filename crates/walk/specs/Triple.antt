@@ -1,10 +1,10 @@
 -- Pieces of the walk put together: what the parts ask, and what they leave, carries over to the whole.
 -- `Tame`: how many slots a piece fills, and that it loses no name. `Sound`: what an assignment that meets a piece's operations
 -- must satisfy. `Complete`: types for a piece's nodes with which its operations are met.
-use Prim.Native.Nat.{ℕ, zero, suc, ◌+◌, ◌*◌, ◌≤◌, ◌<◌}
-use Rattle.std.specs.Prelude.{◌≡◌, Bool, true, false, ◌&&◌, eqb}
+use Prim.Native.Nat.{ℕ, suc, ◌+◌}
+use Rattle.std.specs.Prelude.{◌≡◌, Bool, true, false, eqb}
 use Rattle.std.proofs.Math.Path.{refl, sym, ap, ap₂, subst}
-use Rattle.std.proofs.Common.{◌∙◌, arith, eqb-true, eq-eqb, ne_eqb}
+use Rattle.std.proofs.Common.{◌∙◌, arith, eqb-true, eq-eqb}
 use mathlib.Core.List.{List, [], ◌∷◌, ◌++◌}
 use Rattle.std.proofs.Math.ListN.{length, length-append}
 use Rattle.types.specs.Ty.{Ty}
@@ -12,7 +12,7 @@ use Rattle.formula.specs.Environment.{holds, Env}
 use Rattle.unification.specs.Arena.{decode}
 use Rattle.unification.specs.Good.{Assignment, Says}
 use Rattle.unification.specs.Ops.{Op, pay, make, compare, list, nodes, Meets}
-use Rattle.walk.specs.Writer.{Met, Row, Found, at, absent, found, find, Walk, W, done, glue, ◌>>=◌, enter, own, node, same, problem}
+use Rattle.walk.specs.Writer.{Met, Row, Found, at, absent, found, find, Walk, W, done, glue, ◌>>=◌, enter, own, node, same}
 use Rattle.walk.specs.Tables.{Carries}
 
 -- ---- appended lists
@@ -175,10 +175,6 @@ module _ {Γ : Env} where
   unfolding same
   tame_same x y p = record { counts = λ n row. refl; keeps = λ n row x r h. h; lifts = λ n row σ h q. h }
 
-  pub tame_problem : (q p : ℕ) → Tame Γ 0 (problem q p)
-  unfolding problem
-  tame_problem q p = record { counts = λ n row. refl; keeps = λ n row x r h. h; lifts = λ n row σ h q. h }
-
 -- ---- what an assignment σ, slot types τ and name types ρ have to do with a piece
 module _ (σ : Assignment) (τ ρ : ℕ → Ty) where
   pub record Sat {A : Type 0} (n k : ℕ) (x : Walk A) : Type 0 where
@@ -228,10 +224,6 @@ module _ (σ : Assignment) (τ ρ : ℕ → Ty) where
   pub sound-same : (x y p : ℕ) → Sound (same x y p) (λ j r. σ x ≡ σ y)
   unfolding same
   sound-same x y p = record { gives = λ n j row s. s.met.0 }
-
-  pub sound-problem : (q p : ℕ) → Sound (problem q p) (λ j r. ⊥)
-  unfolding problem
-  sound-problem q p = record { gives = λ n j row s. s.met }
 
   pub sound-done : {A : Type 0} (x : A) → Sound (done x) (λ j y. y ≡ x)
   unfolding done

@@ -32,19 +32,22 @@ use Rattle.unification.specs.Arena.{Direction}
 use Rattle.unification.specs.Ops.{Bench}
 use Rattle.unification.specs.Direction.{OneBinding}
 use Rattle.walk.specs.Walk.{walked}
-use Rattle.walk.specs.Excluded.{typed_allowed}
+use Rattle.walk.proofs.Excluded.{typed_allowed}
 use Rattle.inference.specs.Answer.{Problem, spell_slots, Answer, refused}
 use Rattle.inference.specs.Finish.{Outcome, finish}
 use Rattle.inference.specs.Infer.{answer, infer_of, output_after, zeros}
-use Rattle.inference.specs.Numbers.{Sized, after-other}
+use Rattle.inference.specs.Numbers.{Sized}
+use Rattle.inference.proofs.Numbers.{after-other}
 use Rattle.inference.specs.Conclude.{size}
-use Rattle.inference.specs.Budget.{price, outcome, fill, answer-steps}
-use Rattle.inference.specs.AnyDirection.{Leaves, outcome-found}
+use Rattle.inference.proofs.Budget.{price, outcome, fill, answer-steps}
+use Rattle.inference.specs.AnyDirection.{Leaves}
+use Rattle.inference.proofs.AnyDirection.{outcome-found}
 use Rattle.soundness.specs.Listing.{Lists, AllOf, SomeOf, Clash, Untyped, Among, among_in, problem_of}
 use Rattle.soundness.specs.Excluded.{excluded_kinds}
 use Rattle.soundness.specs.Verdict.{Verdict}
-use Rattle.soundness.specs.Calls.{Spells, spelled-read, Bytes, answered-spells, answer-is, outcome-verdict}
-use Rattle.soundness.specs.Judge.{number-one, bytes_typing, listing-clash, listing_untyped, listing_excluded}
+use Rattle.soundness.specs.Calls.{Spells, spelled-read, Bytes, answered-spells, answer-is}
+use Rattle.soundness.proofs.Calls.{outcome-verdict}
+use Rattle.soundness.proofs.Judge.{number-one, bytes_typing, listing-clash, listing_untyped, listing_excluded}
 use Rattle.soundness.specs.Price.{more_same, fewer_seven, least_steps, fits-answered, fits_seven, fits_six, full_seven, full_six, steps-price}
 
 -- what is answered 0 or 1 spells some environment and some formula

@@ -18,7 +18,8 @@ use Rattle.heads.specs.Heads.{pick, place}
 use Rattle.formula.specs.Parse.{Parsed, parsed, too_long, faulty}
 use Rattle.formula.specs.EnvParse.{entry_at, typed_by, fresh_by, entry_by, entries_from, capped, environment_of}
 use Rattle.types.specs.Limits.{max_bytes, max_depth}
-use Rattle.formula_laws.specs.ExactEnvironment.{EntrySays, entry-says}
+use Rattle.formula_laws.specs.ExactEnvironment.{EntrySays}
+use Rattle.formula_laws.proofs.ExactEnvironment.{entry-says}
 use Rattle.formula_laws.specs.Stays.{at_fault, on_byte_same, name-same, RepT, type_rep}
 
 -- where g is a fault, g' is the same one, as far as m bytes show it; and the fault is not behind p

@@ -17,9 +17,11 @@ use Rattle.unification.specs.Arena.{U}
 use Rattle.inference.specs.Answer.{Answer, refused, written}
 use Rattle.inference.specs.Finish.{Outcome, typed, failed}
 use Rattle.inference.specs.Infer.{either, zeros, concluded, fitting, answer, answered, infer_of, output_after, work_after}
-use Rattle.inference.specs.Conclude.{size, Concluded, concluded_wider, concluded-exact, concluded_full, Ended, ended-spent, ended_full, ended-done, concluded-ends}
+use Rattle.inference.specs.Conclude.{size, Concluded, Ended, ended-spent, ended_full, ended-done}
+use Rattle.inference.proofs.Conclude.{concluded_wider, concluded-exact, concluded_full, concluded-ends}
 use Rattle.inference.specs.Sizes.{Sized}
-use Rattle.inference.specs.Numbers.{Walks, ending, Row, row_2, row_3, row_4, row_5_environment, row_5_formula, row_6, row_7, row_8, row_0_1, walks-answer, rows, after_2, after-other, answer-size, answer-fits}
+use Rattle.inference.specs.Numbers.{Walks, ending, Row, row_2, row_3, row_4, row_5_environment, row_5_formula, row_6, row_7, row_8, row_0_1}
+use Rattle.inference.proofs.Numbers.{walks-answer, rows, after_2, after-other, answer-size, answer-fits}
 
 -- ---- what a formula's conclusion is and costs, whatever the capacity and the budget
 module _ (Γ : Env) (f : Formula) where

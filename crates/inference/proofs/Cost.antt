@@ -10,7 +10,8 @@ use Rattle.formula.specs.Tree.{Formula}
 use Rattle.unification.specs.Arena.{Words, U, solved, read}
 use Rattle.unification.specs.Steps.{solved_metered, read_metered}
 use Rattle.unification.specs.Twin.{read_as_solved}
-use Rattle.unification.specs.Ops.{Bench, exec_metered}
+use Rattle.unification.specs.Ops.{Bench}
+use Rattle.unification.proofs.Ops.{exec_metered}
 use Rattle.walk.specs.Writer.{Row}
 use Rattle.inference.specs.Answer.{Problem}
 use Rattle.inference.specs.Finish.{Finding, found, unsolved, finding, test, Question, Findings, noted, ask, names, slots, Outcome, test_slots, walk_problems, finish}

@@ -14,7 +14,8 @@ use Rattle.formula.specs.Environment.{Env}
 use Rattle.formula.specs.Tree.{Formula}
 use Rattle.unification.specs.Arena.{Words, U, solved, read}
 use Rattle.unification.specs.Ops.{Bench, nodes, exec}
-use Rattle.unification.specs.Frame.{Alike, solved-alike, read_alike, Like, like_spent, like_halt, like_done, Benches, Room, exec-alike}
+use Rattle.unification.specs.Frame.{Alike, solved-alike, read_alike, Like, like_spent, like_halt, like_done, Benches, Room}
+use Rattle.unification.proofs.Frame.{exec-alike}
 use Rattle.walk.specs.Writer.{Row}
 use Rattle.walk.specs.Walk.{walked}
 use Rattle.walk.specs.Verdict.{start}

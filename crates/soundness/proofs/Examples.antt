@@ -7,7 +7,7 @@ use Rattle.std.proofs.Common.{ap, subst, inl, arith}
 use Rattle.meter.specs.Meter.{done}
 use Rattle.unification.specs.Arena.{left_bound}
 use Rattle.unification.specs.Ops.{Bench}
-use Rattle.unification.specs.Direction.{left_binds}
+use Rattle.unification.proofs.Direction.{left_binds}
 use Rattle.walk.specs.Walk.{walked}
 use Rattle.formula.specs.Tree.{Formula, predicate, relational, free, atomic, bound, expression, binary, literal, extension, none, more, exprs, slots, slots_pred, slots_of}
 use Rattle.formula.specs.Environment.{Env, lookup, Distinct, spell_entries}
@@ -19,11 +19,12 @@ use Rattle.typing.specs.Typings.{One, None, Several, index_excluded, excluded, e
 use Rattle.inference.specs.Answer.{Problem, nameless, two, four, spell_problem, spell_problems, Answer, written}
 use Rattle.inference.specs.Finish.{Outcome, finish}
 use Rattle.inference.specs.Infer.{answer, infer_of}
-use Rattle.inference.specs.AnyDirection.{Leaves, outcome-run, outcome-found}
-use Rattle.inference.specs.Cases.{auditors_table, two-unknowns-answered}
+use Rattle.inference.specs.AnyDirection.{Leaves, outcome-run}
+use Rattle.inference.proofs.AnyDirection.{outcome-found}
+use Rattle.inference.proofs.Cases.{auditors_table, two-unknowns-answered}
 use Rattle.soundness.specs.Listing.{Lists}
 use Rattle.soundness.specs.Calls.{Spells}
-use Rattle.soundness.specs.Soundness.{typed_exactly, clash_exactly, untyped_exactly, excluded_none, any_direction}
+use Rattle.soundness.proofs.Soundness.{typed_exactly, clash_exactly, untyped_exactly, excluded_none, any_direction}
 
 abbrev nothing_held : Env
 nothing_held = lookup []

@@ -1,0 +1,11 @@
+pub mod Complete
+pub mod EnvironmentFault
+pub mod EnvironmentMeans
+pub mod EnvironmentStays
+pub mod Exact
+pub mod ExactEnvironment
+pub mod FaultPlace
+pub mod Faults
+pub mod Limited
+pub mod Shape
+pub mod Sound

@@ -1,0 +1,9 @@
+pub mod AnyDirection
+pub mod Budget
+pub mod Cases
+pub mod Conclude
+pub mod Cost
+pub mod Memory
+pub mod Numbers
+pub mod Rows
+pub mod Sizes

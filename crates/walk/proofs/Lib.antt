@@ -1,0 +1,12 @@
+pub mod Cases
+pub mod Excluded
+pub mod Names
+pub mod Nodes
+pub mod Pieces
+pub mod Readings
+pub mod Safe
+pub mod Tables
+pub mod Theorem
+pub mod Triple
+pub mod Verdict
+pub mod Whole
