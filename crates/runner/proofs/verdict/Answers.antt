@@ -11,7 +11,7 @@ returns-then-st-eq6 c = yes_eq _ _ _ _ _ c.if-st-eq6.true refl
 
 pub returns-then-st-eq7 : goal.returns-then-st-eq7
 unfolding verdict_of
-returns-then-st-eq7 c = no_eq _ _ _ _ _ c.if-st-eq6.false (yes_eq _ _ _ _ _ c.if-st-eq7.true refl)
+returns-then-st-eq7 c = no_eq _ _ _ _ _ (λ e. omega (arith, c.if-st-eq7.true)) (yes_eq _ _ _ _ _ c.if-st-eq7.true refl)
 
 pub returns-then-st-ne0 : goal.returns-then-st-ne0
 unfolding verdict_of

@@ -1,6 +1,6 @@
 use Rattle.std.proofs.Common.{◌≡◌, ◌∙◌, refl, sym, ap, arith, rules}
 use Rattle.assembly.specs.Entry.{oversized_call}
-use Rattle.inference.specs.Sizes.{sized-holds}
+use Rattle.inference.proofs.Sizes.{sized-holds}
 use Rattle.typecheck.proofs.Calls.{infer_long, infer_bad, infer_good}
 use Rattle.typecheck.proofs.infer.Goals as goal
 

@@ -1,5 +1,5 @@
 use Rattle.std.proofs.Common.{sym, ap, rules, ◌∙◌}
-use Rattle.unification.specs.Code.{assign_circular, assign-spent, assign_broken, assign-bound}
+use Rattle.unification.proofs.CodeLaws.{assign_circular, assign-spent, assign_broken, assign-bound}
 use Rattle.unifier.specs.Answers.{unified_as}
 use Rattle.unifier.proofs.Laws.{as_merged, told_yes, told_no, told-spent, told_broken}
 use Rattle.unifier.proofs.bind.Goals as goal

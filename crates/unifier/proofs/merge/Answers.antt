@@ -1,5 +1,5 @@
 use Rattle.std.proofs.Common.{sym, arith, length-set, rules, ◌∙◌}
-use Rattle.unification.specs.Merge.{merge_plain, merge_below, merge_above, merge_last, merge_level}
+use Rattle.unification.proofs.Merge.{merge_plain, merge_below, merge_above, merge_last, merge_level}
 use Rattle.unifier.proofs.merge.Goals as goal
 
 pub returns-then-kind-ne78 : goal.returns-then-kind-ne78
