@@ -1,23 +1,21 @@
 -- The entry, put together: a call, step by step as the code goes, is the call that `infer_of` defines.
 -- After this file `calls_infer` is all that the entry's proof needs: it speaks of bytes, lengths and the environment's table, and of nothing inside.
-use Rattle.std.specs.Prelude.{ℕ, zero, suc, ◌+◌, ◌-◌, ◌*◌, ◌≤◌, ◌<◌, ◌≡◌, Bool, true, false, List, [], ◌∷◌, ◌++◌, eqb, ltb, length, take, get_or}
+use Rattle.std.specs.Prelude.{ℕ, ◌+◌, ◌*◌, ◌≤◌, ◌<◌, ◌≡◌, Bool, true, false, List, [], ◌∷◌, eqb, length, take, get_or}
 use Rattle.std.proofs.Math.Path.{refl, sym}
-use Rattle.std.proofs.Common.{◌∙◌, ap, ap₂, subst, arith, length-take-le, le-ltb}
+use Rattle.std.proofs.Common.{◌∙◌, ap, subst, arith, length-take-le, le-ltb}
 use Rattle.meter.specs.Meter.{Out, spent, halt, done, broken, full}
 use Rattle.types.specs.Ty.{Ty, Below}
-use Rattle.types.specs.Spellings.{Bytes, bytes-at}
+use Rattle.types.specs.Spellings.{bytes-at}
 use Rattle.formula.specs.declared.Fault.{Fault}
 use Rattle.formula.specs.declared.Fault.TheVariants as F
-use Rattle.formula.specs.declared.Form.{Form}
-use Rattle.formula.specs.declared.Form.TheVariants.{Good, TooLong, Bad}
-use Rattle.formula.specs.Environment.{Entry, lacks, holds, first, Env, Entries, lookup}
+use Rattle.formula.specs.Environment.{holds, first, Entries, lookup}
 use Rattle.formula.specs.EnvParse.{capped, environment_of, Table}
 use Rattle.formula.specs.EnvSteps.{capped-most}
 use Rattle.heads.specs.Heads.{pick}
 use Rattle.types.specs.Limits.{max_names}
 use Rattle.formula.specs.Parse.{Parsed, parsed, too_long, faulty, parse_of, form_of}
 use Rattle.formula.specs.Tree.{Formula}
-use Rattle.formula_laws.specs.Fits.{FitsTy, FitsFormula}
+use Rattle.formula_laws.specs.Fits.{FitsTy}
 use Rattle.formula_laws.specs.Exact.{Spelled}
 use Rattle.formula_laws.proofs.Exact.{parsed-is-spelled}
 use Rattle.formula_laws.specs.ExactEnvironment.{FitsEntries, SpelledEntries}
@@ -26,7 +24,7 @@ use Rattle.unification.specs.Arena.{U}
 use Rattle.inference.specs.Answer as I
 use Rattle.inference.specs.Answer.{refused, written}
 use Rattle.inference.specs.Finish.{Outcome, typed, failed}
-use Rattle.inference.specs.Infer.{either, sized, concluded, fitting, answer, answered, blamed, formed, infer_of, output_after, work_after, zeros}
+use Rattle.inference.specs.Infer.{either, sized, concluded, fitting, answer, answered, blamed, formed, infer_of, output_after, work_after}
 use Rattle.inference.specs.Sizes.{Sized}
 use Rattle.inference.proofs.Sizes.{sized-holds}
 use Rattle.machine.specs.Machine.{Mach}
@@ -35,11 +33,10 @@ use Rattle.walker.specs.Root.{formula_of}
 use Rattle.finisher.specs.Finisher.{most, finish_of, write_answer_of}
 use Rattle.simulation.specs.Whole.{walk_ends}
 use Rattle.conclusion.specs.Conclusion.{Concludes, concludes}
-use Rattle.memory.specs.Memory.{cleared}
 use Rattle.runner.specs.declared.Answer.{Answer}
 use Rattle.runner.specs.declared.Answer.TheVariants.{Oversized}
-use Rattle.runner.specs.Answers.{Told, told, brief, Call, called, call_of}
-use Rattle.runner.specs.Run.{Judged, judged, run_of, judge_of, fault_of}
+use Rattle.runner.specs.Answers.{told, brief, called, call_of}
+use Rattle.runner.specs.Run.{judged, run_of, judge_of, fault_of}
 use Rattle.runner.specs.Calls.{closed, formula_call, environment_call}
 use Rattle.assembly.specs.Start.{begun, begun_fresh, begun-budget}
 use Rattle.assembly.specs.Says.{Says, judge_says, closed_call, cleared-long}

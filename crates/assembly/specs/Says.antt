@@ -1,5 +1,5 @@
 -- From what the machine holds when the tests are done to the answer that is returned and the bytes that stand in the output.
-use Rattle.std.specs.Prelude.{ℕ, zero, suc, ◌+◌, ◌-◌, ◌*◌, ◌≤◌, ◌<◌, min, ◌≡◌, refl, ◌≢◌, Bool, List, [], ◌∷◌, ◌++◌, eqb, leb, length, take, replicate}
+use Rattle.std.specs.Prelude.{ℕ, ◌+◌, ◌-◌, ◌≤◌, min, ◌≡◌, refl, ◌≢◌, Bool, List, ◌++◌, eqb, length, take, replicate}
 use Rattle.std.proofs.Common.{sym, ◌∙◌, length-append, length-take, eq-eqb, ne_eqb, le-leb}
 use Rattle.std.proofs.Math.Path.{ap, ap₂, subst}
 use Rattle.std.proofs.Math.Bool.{true, false}
@@ -8,8 +8,7 @@ use Rattle.std.proofs.Math.Decide.{dec_le}
 use Rattle.std.proofs.lemmas.List.{length-replicate}
 use Rattle.std.proofs.Math.Nat.{min-eq_left, min-eq_right}
 use Rattle.std.proofs.lemmas.Bool.{lt-leb}
-use Rattle.meter.specs.Meter.{Out, spent, halt, done, Why, broken, full}
-use Rattle.types.specs.Ty.{Ty}
+use Rattle.meter.specs.Meter.{Out, spent, halt, done, broken, full}
 use Rattle.formula.specs.Environment.{spell_entries}
 use Rattle.unification.specs.Arena.{U}
 use Rattle.inference.specs.Answer as I
@@ -24,9 +23,8 @@ use Rattle.simulation.specs.Relation.{Wrote}
 use Rattle.simulation.specs.Stand.{test_yes, test_no}
 use Rattle.conclusion.specs.Conclusion.{Concludes}
 use Rattle.finisher.specs.Finisher.{write_answer_of}
-use Rattle.runner.specs.declared.Answer as D
-use Rattle.runner.specs.declared.Answer.TheVariants.{Typed, Problems, Oversized, Full, Spent, NoRoom}
-use Rattle.runner.specs.Answers.{Told, refusal, told, brief, Call, called, call_of}
+use Rattle.runner.specs.declared.Answer.TheVariants.{Typed, Problems, Full, Spent, NoRoom}
+use Rattle.runner.specs.Answers.{Told, told, brief, called, call_of}
 use Rattle.runner.specs.Run.{Judged, judged, verdict_of, judge_of}
 use Rattle.runner.specs.Calls.{closed}
 

@@ -1,15 +1,13 @@
 -- How a walk begins: the machine over words whose book is cleared, with the environment's types entered, is fresh.
-use Rattle.std.specs.Prelude.{ℕ, zero, suc, ◌+◌, ◌-◌, ◌*◌, ◌≤◌, ◌<◌, ◌≡◌, refl, ◌≢◌, Bool, true, false, List, [], ◌∷◌, ◌++◌, get_or, take, set, replicate}
-use Rattle.std.proofs.Common.{sym, ◌∙◌, subst, arith, length-set, length-append, get_or-set_same, get_or-set_other}
+use Rattle.std.specs.Prelude.{ℕ, zero, suc, ◌+◌, ◌-◌, ◌*◌, ◌≤◌, ◌<◌, ◌≡◌, refl, List, get_or, take, replicate}
+use Rattle.std.proofs.Common.{sym, ◌∙◌, arith, length-set, get_or-set_same, get_or-set_other}
 use Rattle.std.proofs.Math.Path.{ap}
-use Rattle.std.proofs.Math.Decide.{ℕ_discrete, dec_lt}
+use Rattle.std.proofs.Math.Decide.{ℕ_discrete}
 use Rattle.std.proofs.Math.ListN.{length, drop}
 use Rattle.std.proofs.lemmas.List.{length-replicate, get_or-replicate}
 use Rattle.std.proofs.Math.Seq.{length-take-le, take-append_seam, drop-append_seam}
-use Rattle.types.specs.Ty.{Ty, spell, depth}
-use Rattle.types.specs.Record.{type_at, got}
 use Rattle.types.specs.Spellings.{Bytes, read-stands}
-use Rattle.formula.specs.Environment.{Entry, lacks, holds, Env, Entries, lookup}
+use Rattle.formula.specs.Environment.{Entry, lacks, holds, Entries, lookup}
 use Rattle.formula.specs.EnvParse.{Cell, Table}
 use Rattle.types.specs.Limits.{max_names, max_depth}
 use Rattle.simulation.specs.Relation.{Entered}

@@ -1,7 +1,7 @@
 -- Types written after the walk: the bytes of each come after those before it, or are counted as over.
 -- After this file a reader knows which bytes `spell_of` writes, and that it changes nothing else.
-use Rattle.std.specs.Prelude.{ℕ, suc, ◌+◌, ◌≤◌, ◌≡◌, refl, Bool, true, false, List, [], ◌∷◌, ◌++◌, eqb, length, take}
-use Rattle.std.proofs.Common.{sym, ◌∙◌, ap₂, arith, length-append, eq-eqb}
+use Rattle.std.specs.Prelude.{ℕ, ◌+◌, ◌≤◌, ◌≡◌, refl, true, false, List, ◌++◌, eqb, length, take}
+use Rattle.std.proofs.Common.{◌∙◌, ap₂, arith, length-append, eq-eqb}
 use Rattle.std.proofs.Math.Path.{ap}
 use Rattle.std.proofs.Math.Decide.{dec_le}
 use Rattle.meter.specs.Meter.{Out, done, halt, full}
@@ -15,8 +15,7 @@ use Rattle.machine.specs.Machine.{Mach, bytes_of, over_of}
 use Rattle.finisher.specs.Finisher.{most, laid_by, spell_of}
 use Rattle.simulation.specs.Relation.{Wrote}
 use Rattle.simulation.specs.Stand.{test_yes, test_no}
-use Rattle.simulation.specs.Steps.{nil_right}
-use Rattle.simulation.specs.Output.{spoken, Spoke, assoc}
+use Rattle.simulation.specs.Output.{spoken, Spoke}
 
 -- the bytes of T are written where it is what is read
 module _ (room : ℕ) (m : Mach) (g : m.st.stop ≡ 0) (t : ℕ) (T : Ty) (left : ℕ) (q : read m.arena m.st.nodes t most ≡ done T left) where

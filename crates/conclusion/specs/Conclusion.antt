@@ -1,13 +1,13 @@
 -- The end of a walk that the machine took: from its bench and books to the answer's number, bytes and what is left of the budget.
 -- After this file a reader knows, for the machine at the end of a formula's walk, how the finish and the writing end, outcome by outcome of
 -- inference's `finish`; and that a bench which the walk's operations reach is one they ran to.
-use Rattle.std.specs.Prelude.{ℕ, zero, suc, ◌+◌, ◌-◌, ◌*◌, ◌≤◌, ◌<◌, ◌⊎◌, Bool, true, false}
+use Rattle.std.specs.Prelude.{ℕ, ◌+◌, ◌-◌, ◌*◌, ◌≤◌, ◌<◌, Bool, true, false}
 use Rattle.std.proofs.Math.Path.{◌≡◌, refl, subst}
-use Rattle.std.proofs.Common.{sym, ◌∙◌, ap, inl, inr, arith}
-use mathlib.Core.List.{List, [], ◌∷◌, ◌++◌}
+use Rattle.std.proofs.Common.{sym, ◌∙◌, ap, inl, arith}
+use mathlib.Core.List.{List, [], ◌++◌}
 use Rattle.std.proofs.Math.Decide.{dec_lt}
 use Rattle.std.proofs.Math.ListN.{length}
-use Rattle.meter.specs.Meter.{Out, spent, halt, done, Why, broken, full, M, on, ◌>>=◌, within_le, Ends, exact-ends, exact-done, Halts}
+use Rattle.meter.specs.Meter.{Out, spent, halt, done, broken, full, on, ◌>>=◌, within_le, Ends, exact-ends, exact-done, Halts}
 use Rattle.types.specs.Ty.{Ty, Below}
 use Rattle.formula.specs.Environment.{holds, Env, spell_entries}
 use Rattle.formula.specs.Tree.{Formula}
@@ -16,7 +16,6 @@ use Rattle.unification.specs.Arena.{Words, U}
 use Rattle.unification.specs.Trees.{var}
 use Rattle.unification.specs.Ops.{Bench, Ready, Sound, Ran, nodes, exec}
 use Rattle.unification.proofs.Ops.{exec_metered, exec-exact, exec_full}
-use Rattle.walk.specs.Writer.{Row}
 use Rattle.walk.specs.Walk.{walked}
 use Rattle.walk.specs.Safe.{RowIn, SlotsIn}
 use Rattle.walk.proofs.Safe.{safe-formula}
@@ -24,7 +23,6 @@ use Rattle.walk.specs.Whole.{none_found}
 use Rattle.walk.specs.Verdict.{start}
 use Rattle.inference.specs.Answer.{Problem, spell_problems, spell_slots}
 use Rattle.inference.specs.Finish.{names, Outcome, typed, failed, finish}
-use Rattle.inference.specs.Rows.{Every}
 use Rattle.inference.proofs.Rows.{found-asked}
 use Rattle.inference.proofs.Conclude.{finish-exact}
 use Rattle.inference.specs.Conclude as C

@@ -1,20 +1,20 @@
 -- The finish: from a machine that stands for a bench and its books, the tests of names and slots end as inference's `finish` ends.
 -- After this file a reader knows, of the machine after the finish: whether and with which number it stopped, what is left of the budget,
 -- whether anything is listed, and the bytes written.
-use Prim.Native.Nat.{ℕ, zero, suc, ◌+◌, ◌*◌, ◌≤◌, ◌<◌}
+use Prim.Native.Nat.{ℕ, suc, ◌+◌, ◌≤◌, ◌<◌}
 use Rattle.std.proofs.Math.Path.{◌≡◌, refl, sym, ap, ap₂, subst}
 use Rattle.std.proofs.Common.{◌∙◌, eq-eqb, ne_eqb}
-use Rattle.std.specs.Prelude.{Bool, true, false, eqb, length, get_or}
+use Rattle.std.specs.Prelude.{Bool, true, false, length, get_or}
 use mathlib.Core.List.{List, [], ◌∷◌, ◌++◌}
 use native.Mathlib.Omega.{arith}
 use Rattle.std.proofs.Math.Decide.{dec_le}
-use Rattle.meter.specs.Meter.{Out, spent, halt, done, Why, M, ret, on, ◌>>=◌}
+use Rattle.meter.specs.Meter.{Out, spent, halt, done, ret, on, ◌>>=◌}
 use Rattle.types.specs.Ty.{Ty}
 use Rattle.formula.specs.Environment.{Entry, lacks, holds, Env}
 use Rattle.unification.specs.Arena.{U}
 use Rattle.unification.specs.Ops.{Bench}
 use Rattle.walk.specs.Writer.{Met, Row}
-use Rattle.inference.specs.Answer.{Problem, spell_problem, spell_problems, nameless}
+use Rattle.inference.specs.Answer.{Problem, spell_problem, spell_problems}
 use Rattle.inference.specs.Finish.{Question, Findings, ask, ask_name, names, Outcome, typed, failed, settled, test_slots, walk_problems, finish}
 use Rattle.inference.specs.Finish as F
 use Rattle.machine.specs.declared.State.{State}

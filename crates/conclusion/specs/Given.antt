@@ -1,8 +1,7 @@
 -- Names in the arena: a walk makes given sets of no other names than the formula's and the environment's, and meets no others.
 -- After this file a reader knows that the names of an answer are below the count of names, and so the given names of its types.
-use Prim.Native.Nat.{ℕ, zero, suc, ◌+◌, ◌*◌, ◌≤◌, ◌<◌}
-use Rattle.std.specs.Prelude.{◌≡◌, refl, Bool, true, false}
-use Rattle.std.proofs.Common.{sym, ◌∙◌, ap, ap₂, subst, arith}
+use Prim.Native.Nat.{ℕ, zero, suc, ◌+◌, ◌<◌}
+use Rattle.std.specs.Prelude.{◌≡◌, refl}
 use mathlib.Core.List.{List, [], ◌∷◌, ◌++◌}
 use Rattle.types.specs.Ty.{bool, int, given, Ty, base, pow, prod, Below, AtomBelow, given_below}
 use Rattle.formula.specs.Environment.{Entry, lacks, holds, Env}
@@ -13,7 +12,7 @@ use Rattle.unification.specs.Arena as A
 use Rattle.unification.specs.Ops.{Op, pay, make, compare, list, nodes}
 use Rattle.typing.specs.Equations.{Way, forward, backward, look}
 use Rattle.walk.specs.Writer.{Met, Row, Found, at, absent, find, W, done, glue, ◌>>=◌, enter, own, node, same, problem, enrol, UNKNOWN, BOOLEAN, INTEGER, GIVEN, POWER, PRODUCT, unknown, boolean, integer, power}
-use Rattle.walk.specs.Scripts.{Ref, Item, an_unknown, a_bool, an_int, a_power, a_pair, equal, Script, pick, play, perform, three, left, only, never_items, never_script, atomic_scripts, binary_scripts, unary_scripts, quantified_scripts, relational_scripts, simple_script, Gather, all_as, linked, no_script, associative_scripts}
+use Rattle.walk.specs.Scripts.{Ref, Item, an_unknown, a_bool, an_int, a_power, a_pair, equal, Script, play, perform, three, left, only, never_items, never_script, atomic_scripts, binary_scripts, unary_scripts, quantified_scripts, relational_scripts, simple_script, Gather, all_as, linked, no_script, associative_scripts}
 use Rattle.walk.specs.Walk.{Mode, loose, each, links, relation, stepped, last, gather, atom, lift, from_env, known, counted, over, name, note_of, notes, meets, spelled, claim, at_decl, declare, ascription, expr, script_of, walk, walk_all, walk_pred, walk_preds, target, pairs, products, targets_of, shares, forget, walk_formula, walked}
 
 module _ (N : ℕ) where

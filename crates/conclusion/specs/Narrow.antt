@@ -1,9 +1,9 @@
 -- The types of an outcome hold no other given names than the walk's nodes.
 -- An assignment that the walk's operations admit stays admitted where every name past a count is replaced: so a type that all of them agree on
 -- holds none. After this file a reader knows that two bytes hold every name of an answer.
-use Rattle.std.specs.Prelude.{ℕ, zero, suc, ◌+◌, ◌*◌, ◌≤◌, ◌<◌, Bool, List, [], ◌∷◌, ◌++◌, ltb}
+use Rattle.std.specs.Prelude.{ℕ, suc, ◌≤◌, ◌<◌, Bool, List, [], ◌∷◌, ◌++◌, ltb}
 use Rattle.std.proofs.Math.Path.{◌≡◌, refl, ap}
-use Rattle.std.proofs.Common.{sym, ◌∙◌, ap₂, subst, lt-ltb, ltb-true}
+use Rattle.std.proofs.Common.{sym, ◌∙◌, subst, lt-ltb, ltb-true}
 use Rattle.std.proofs.Math.Bool.{true, false}
 use native.Mathlib.Omega.{arith}
 use Rattle.std.proofs.Math.ListN.{length}
@@ -11,7 +11,7 @@ use Rattle.types.specs.Ty.{Atom, bool, int, given, Ty, base, pow, prod, Below, A
 use Rattle.formula.specs.Environment.{Entry, lacks, holds, Env}
 use Rattle.unification.specs.Arena.{Node, link, leaf, bad, decode, Words, node_at}
 use Rattle.unification.specs.Arena as A
-use Rattle.unification.specs.Good.{Assignment, Says, Admits, Good, extend, extend_admits}
+use Rattle.unification.specs.Good.{Assignment, Says, extend, extend_admits}
 use Rattle.unification.specs.Ops.{Op, pay, make, compare, list, Bench, Meets, Admitted, Judged, clean, hopeless, Ran}
 use Rattle.walk.specs.Writer.{Met, Row}
 use Rattle.walk.specs.Verdict.{start}

@@ -1,16 +1,15 @@
 -- Types found are types read: where the tests list nothing, each reference's type is read at every budget from theirs on.
 -- After this file a reader knows what the answer's writer will meet at each reference.
-use Rattle.std.specs.Prelude.{ℕ, zero, suc, ◌+◌, ◌-◌, ◌≤◌, ◌<◌, refl, Bool, true, false}
+use Rattle.std.specs.Prelude.{ℕ, ◌+◌, ◌-◌, ◌≤◌, refl, Bool, true, false}
 use Rattle.std.proofs.Math.Path.{◌≡◌, subst}
 use Rattle.std.proofs.Common.{sym, ◌∙◌, ap}
-use mathlib.Core.List.{List, [], ◌∷◌, ◌++◌}
+use mathlib.Core.List.{List, [], ◌∷◌}
 use native.Mathlib.Omega.{arith}
-use Rattle.meter.specs.Meter.{Out, spent, halt, done, Why, M, ret, ◌>>=◌, within_le, done_costs}
+use Rattle.meter.specs.Meter.{Out, spent, halt, done, ret, ◌>>=◌, within_le, done_costs}
 use Rattle.types.specs.Ty.{Ty}
 use Rattle.unification.specs.Arena.{Words, U, solved, read}
 use Rattle.unification.specs.Steps.{read_metered}
 use Rattle.unification.specs.Put.{bind_inv}
-use Rattle.inference.specs.Answer.{Problem}
 use Rattle.inference.specs.Finish.{Finding, found, unsolved, Question, Findings, noted, ask}
 use Rattle.inference.specs.Finish as F
 use Rattle.inference.proofs.Cost as C

@@ -1,12 +1,12 @@
 -- The answer's bytes: where the finish finds every type, the machine writes the 50 and 51 entries that inference says, or has no room for them.
 -- After this file a reader knows the output after a formula that is typed.
-use Prim.Native.Nat.{ℕ, zero, suc, ◌+◌, ◌*◌, ◌/◌, ◌%◌, ◌≤◌, ◌<◌}
+use Prim.Native.Nat.{ℕ, suc, ◌+◌, ◌/◌, ◌%◌, ◌≤◌, ◌<◌}
 use Rattle.std.proofs.Math.Path.{◌≡◌, sym, ap, ap₂, subst}
-use Rattle.std.specs.Prelude.{refl, Bool, true, false, length, get_or}
+use Rattle.std.specs.Prelude.{refl, Bool, length, get_or}
 use Rattle.std.proofs.Common.{◌∙◌}
 use mathlib.Core.List.{List, [], ◌∷◌, ◌++◌}
 use native.Mathlib.Omega.{arith}
-use Rattle.meter.specs.Meter.{Out, spent, halt, done, M, ret, ◌>>=◌, within_le}
+use Rattle.meter.specs.Meter.{Out, done, ret, within_le}
 use Rattle.types.specs.Ty.{Ty, spell, Below}
 use Rattle.formula.specs.Environment.{Env, spell_entry, spell_entries}
 use Rattle.unification.specs.Arena.{U, read}
@@ -18,9 +18,8 @@ use Rattle.inference.specs.Answer.{Problem, two, four, spell_slot, spell_slots}
 use Rattle.inference.specs.Finish.{Question, Findings, ask, names, Outcome, typed, failed, settled, test_slots, walk_problems, finish}
 use Rattle.inference.specs.Finish as F
 use Rattle.inference.proofs.Cost.{ask_metered}
-use Rattle.machine.specs.declared.State.{State}
-use Rattle.forms.specs.Forms.{test, then}
-use Rattle.machine.specs.Machine.{Mach, cell, word_of, emit_of, two_of, four_of}
+use Rattle.forms.specs.Forms.{then}
+use Rattle.machine.specs.Machine.{Mach, cell, emit_of, two_of, four_of}
 use Rattle.finisher.specs.Finisher.{most, each_of, spell_of, entry_of, type_of, finish_of, write_names_of, write_slots_of, write_answer_of}
 use Rattle.simulation.specs.Relation.{Wrote, Stands, Listed, Filled}
 use Rattle.simulation.specs.Steps.{nil_right}

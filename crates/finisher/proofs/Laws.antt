@@ -1,6 +1,6 @@
 -- Laws that the proofs of the finish cite: what the answers of the test and of the writer do to the machine, and one turn of a row's loop.
-use Rattle.std.proofs.Common.{ℕ, zero, suc, ◌+◌, ◌-◌, ◌≤◌, ◌<◌, sym, arith, ◌≡◌, ap, ◌∙◌, refl, Bool, true, false, List, take, drop}
-use Rattle.meter.specs.Meter.{Out, spent, halt, done, Why, broken, full}
+use Rattle.std.proofs.Common.{ℕ, suc, ◌+◌, ◌-◌, ◌≤◌, ◌<◌, sym, arith, ◌≡◌, ap, ◌∙◌, Bool, List, take, drop}
+use Rattle.meter.specs.Meter.{Out}
 use Rattle.unification.specs.Arena as A
 use Rattle.unification.specs.Put as P
 use Rattle.unifier.specs.declared.Told.TheVariants as To

@@ -1,8 +1,8 @@
 -- The finish of a walk and the answer's bytes, as steps of the walk's machine.
 -- Names met are tested for unknowns, in order, then, where nothing is listed, the slots; where still nothing is listed, their types are
 -- written: 50 entries, then 51 entries. A stopped machine passes through every step.
-use Rattle.std.specs.Prelude.{ℕ, zero, suc, ◌+◌, Bool, true, false, List, eqb}
-use Rattle.meter.specs.Meter.{Out, spent, halt, done, Why, broken, full}
+use Rattle.std.specs.Prelude.{ℕ, zero, suc, ◌+◌, Bool, true, false, eqb}
+use Rattle.meter.specs.Meter.{Out, spent, halt, done, broken, full}
 use Rattle.unification.specs.Arena as A
 use Rattle.unification.specs.Put as P
 use Rattle.machine.specs.declared.State.{State}

@@ -1,7 +1,7 @@
 -- How a specification is put together, and how an answer follows it: one law for each way that the code can go. The forms are shut, so that an
 -- answer's blanks are found.
-use Rattle.std.specs.Prelude.{ℕ, ◌<◌, ◌≤◌, eqb, ltb, leb, ◌≡◌, refl, Bool, true, false}
-use Rattle.std.proofs.Common.{lt-ltb, le-ltb, le-leb, eq-eqb, ne_eqb, sym, ap, ◌∙◌}
+use Rattle.std.specs.Prelude.{ℕ, ◌<◌, ◌≤◌, eqb, ltb, leb, ◌≡◌, Bool, true, false}
+use Rattle.std.proofs.Common.{lt-ltb, le-ltb, le-leb, eq-eqb, ne_eqb, ap, ◌∙◌}
 use Rattle.std.proofs.lemmas.Bool.{lt-leb}
 
 -- a test; a branch is a function of nothing, so that only the branch that is taken is computed

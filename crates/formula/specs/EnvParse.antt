@@ -1,13 +1,11 @@
 -- What the bytes of an environment spell, read entry by entry: its entries, or the first fault.
 -- At one entry a byte other than 50, a cut body, a name at or above the count and a name that already has an entry come first, then its type's faults.
 -- After this file a reader knows which streams are environments, and what the table of places says.
-use Rattle.std.specs.Prelude.{ℕ, zero, suc, ◌+◌, ◌<◌, min, ◌≡◌, Bool, true, false, List, [], ◌∷◌, ◌++◌, length, get_or, set, ltb, eqb}
+use Rattle.std.specs.Prelude.{ℕ, zero, suc, ◌+◌, ◌<◌, ◌≡◌, List, [], ◌∷◌, ◌++◌, length, get_or, set, ltb, eqb}
 use Rattle.types.specs.declared.Place.{Place}
-use Rattle.types.specs.Ty.{Ty}
 use Rattle.types.specs.Record.{TypeAt, got, malformed, deep, type_at}
 use Rattle.heads.specs.declared.Word.{Word}
 use Rattle.heads.specs.declared.Word.TheVariants as W
-use Rattle.formula.specs.declared.Fault.{Fault}
 use Rattle.formula.specs.declared.Fault.TheVariants.{Malformed, Beyond}
 use Rattle.formula.specs.Environment.{Entry, lacks, holds, Entries, lookup, spell_entry}
 use Rattle.heads.specs.Heads.{pick, place, byte_at, on_byte, name_at}

@@ -1,6 +1,6 @@
 -- An environment: entries with distinct names, what it says of a name, and the bytes that spell it.
 -- After this file a reader knows what `Env`, `lookup` and `spell_entries` mean.
-use Rattle.std.specs.Prelude.{ℕ, suc, ◌+◌, ◌*◌, ◌/◌, ◌%◌, ◌≡◌, Bool, true, false, List, [], ◌∷◌, ◌++◌, eqb}
+use Rattle.std.specs.Prelude.{ℕ, ◌/◌, ◌%◌, ◌≡◌, Bool, true, false, List, [], ◌∷◌, ◌++◌, eqb}
 use Rattle.types.specs.Ty as T
 use Rattle.types.specs.Ty.{Ty}
 

@@ -1,10 +1,8 @@
 -- What the bytes of a stream spell, read from left to right: the tree, or the first fault.
 -- `left` is how many levels of records may still be opened, this record's own included. At one record a malformed head comes first,
 -- then the limits (depth, slots, open declarations), then the children in stream order.
-use Rattle.std.specs.Prelude.{ℕ, zero, suc, ◌+◌, Bool, true, false, List, [], ◌∷◌, length, leb, ltb, eqb}
+use Rattle.std.specs.Prelude.{ℕ, zero, suc, Bool, true, false, List, [], ◌∷◌, length, ltb, eqb}
 use Rattle.types.specs.declared.Place.{Place}
-use Rattle.types.specs.Ty.{Ty}
-use Rattle.heads.specs.declared.Byte.{Byte}
 use Rattle.heads.specs.declared.Word.{Word}
 use Rattle.heads.specs.declared.Word.TheVariants as W
 use Rattle.heads.specs.declared.ExprHead.{ExprHead}
@@ -24,8 +22,8 @@ use Rattle.formula.specs.declared.Fault.{Fault}
 use Rattle.formula.specs.declared.Fault.TheVariants.{Malformed, Beyond}
 use Rattle.formula.specs.declared.Form.{Form}
 use Rattle.formula.specs.declared.Form.TheVariants.{Good, TooLong, Bad}
-use Rattle.formula.specs.Tree.{Spelling, spells, no_type_lem, Decl, plain, typed, annotated, Expr, free, bound, literal, atomic, extension, truth, binary, associative, unary, quantified, ascribed, explicit, Exprs, none, more, Pred, constant, variable, relational, connective, junction, negation, quantification, simple, multiple, application, Preds, end, also, Target, Formula, expression, predicate, becomes, becomes_in, becomes_such}
-use Rattle.heads.specs.Heads.{pick, place, byte_at, on_byte, on_word, few_at, expr_head, pred_head, decl_head, target_at}
+use Rattle.formula.specs.Tree.{Decl, plain, typed, annotated, Expr, free, bound, literal, atomic, extension, truth, binary, associative, unary, quantified, ascribed, explicit, Exprs, none, more, Pred, constant, variable, relational, connective, junction, negation, quantification, simple, multiple, application, Preds, end, also, Target, Formula, expression, predicate, becomes, becomes_in, becomes_such}
+use Rattle.heads.specs.Heads.{pick, place, byte_at, on_byte, few_at, expr_head, pred_head, decl_head, target_at}
 use Rattle.formula.specs.Reader.{Got, ok, bad, and_then, on_next, many, moved, own_of, declare_of, closing, type_in, spelling_in}
 use Rattle.types.specs.Limits.{max_bytes, max_depth, levels}
 

@@ -1,6 +1,6 @@
 -- What one record does to the reader's state: the slot it owns, the declaration it opens, the type it holds.
 -- A fault passes through everything that would come after it.
-use Rattle.std.specs.Prelude.{ℕ, zero, suc, ◌+◌, Bool, true, false, List, ltb, eqb}
+use Rattle.std.specs.Prelude.{ℕ, zero, suc, ◌+◌, List, ltb, eqb}
 use Rattle.types.specs.declared.Place.{Place}
 use Rattle.types.specs.Ty.{Ty}
 use Rattle.types.specs.Record.{TypeAt, got, malformed, deep, type_at}

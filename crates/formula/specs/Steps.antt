@@ -2,9 +2,9 @@
 use Prim.Native.Nat.{ℕ, zero, suc, ◌+◌, ◌-◌, ◌≤◌, ◌<◌}
 use native.Mathlib.Omega.{arith}
 use Rattle.std.proofs.Math.Decide.{ℕ_discrete, dec_lt}
-use Rattle.std.proofs.Common.{sub-one, ◌∙◌, drop_of_length-le, drop-cons, take_all}
+use Rattle.std.proofs.Common.{sub-one, ◌∙◌}
 use Rattle.std.proofs.Math.Path.{◌≡◌, refl, sym, ap}
-use Rattle.std.specs.Prelude.{Bool, length, get_or, take, drop}
+use Rattle.std.specs.Prelude.{Bool, length}
 use Rattle.std.proofs.Math.Bool.{true, false}
 use mathlib.Core.List.{List, [], ◌∷◌}
 use Rattle.std.proofs.Math.Dec.{leb}
@@ -17,9 +17,7 @@ use Rattle.types.specs.Record.{TypeAt, got, malformed, deep, type_at, reach}
 use Rattle.types.specs.Code.{end_of}
 use Rattle.heads.specs.declared.Byte.{Byte}
 use Rattle.heads.specs.declared.Byte.TheVariants as B
-use Rattle.heads.specs.declared.Word.{Word}
 use Rattle.heads.specs.declared.Word.TheVariants as W
-use Rattle.formula.specs.declared.Form.{Form}
 use Rattle.formula.specs.declared.Form.TheVariants.{Good, TooLong, Bad}
 use Rattle.heads.specs.declared.ExprHead.{ExprHead}
 use Rattle.heads.specs.declared.ExprHead.TheVariants.{Free, Bound, Literal, Atomic, Extension, Truth, Binary, Associative, Unary, Quantified, Ascribed, Explicit}
@@ -27,11 +25,8 @@ use Rattle.heads.specs.declared.PredHead.{PredHead}
 use Rattle.heads.specs.declared.PredHead.TheVariants.{Constant, Variable, Relational, Connective, Junction, Negation, Quantification, Simple, Multiple, Application}
 use Rattle.heads.specs.declared.DeclHead.{DeclHead}
 use Rattle.heads.specs.declared.DeclHead.TheVariants.{Plain, Typed, Annotated}
-use Rattle.heads.specs.declared.ExprAt.{ExprAt}
 use Rattle.heads.specs.declared.ExprAt.TheVariants as E
-use Rattle.heads.specs.declared.PredAt.{PredAt}
 use Rattle.heads.specs.declared.PredAt.TheVariants as P
-use Rattle.heads.specs.declared.DeclAt.{DeclAt}
 use Rattle.heads.specs.declared.DeclAt.TheVariants as D
 use Rattle.heads.specs.declared.RootAt.{RootAt}
 use Rattle.heads.specs.declared.RootAt.TheVariants as R
@@ -40,10 +35,10 @@ use Rattle.formula.specs.declared.Fault.{Fault}
 use Rattle.formula.specs.declared.Fault.TheVariants.{Malformed, Beyond}
 use Rattle.formula.specs.declared.Out.{Out}
 use Rattle.formula.specs.declared.Out.TheVariants.{Next, Stop}
-use Rattle.formula.specs.Tree.{Spelling, Decl, Expr, extension, truth, binary, associative, unary, quantified, ascribed, explicit, Exprs, none, more, Pred, relational, connective, junction, negation, quantification, simple, multiple, application, Preds, end, also, Target, Formula, expression, predicate, becomes, becomes_in, becomes_such}
+use Rattle.formula.specs.Tree.{Expr, binary, quantified, ascribed, explicit, none, more, Pred, relational, connective, junction, negation, quantification, simple, multiple, application, end, also, Formula, expression, predicate, becomes, becomes_in, becomes_such}
 use Rattle.heads.specs.Reads.{reach-all, root-missing, root-expression, root-predicate, root_assignment, assignment_missing, assignment_becomes, assignment_in, assignment_such, assignment_wrong}
-use Rattle.heads.specs.Heads.{pick, place, byte_at, on_byte, few_at, expr_head, pred_head, decl_head, target_at, assignment_at, root_head}
-use Rattle.formula.specs.Reader.{Got, ok, bad, and_then, forget, after, on_next, many, moved, own_of, declare_of, closed, closing, closed_of, type_got, type_in, no_type, spelled_in, spelling_in}
+use Rattle.heads.specs.Heads.{pick, byte_at, on_byte, few_at, expr_head, pred_head, decl_head, target_at, assignment_at, root_head}
+use Rattle.formula.specs.Reader.{Got, ok, bad, and_then, forget, after, on_next, many, moved, own_of, declare_of, closing, closed_of, type_got, type_in, no_type, spelled_in, spelling_in}
 use Rattle.formula.specs.Parse.{decl_by, decl_if, decl_at, decls_at, expr_by, pred_by, expr_if, pred_if, expr_deep, pred_deep, expr_at, pred_at, exprs_at, preds_at, target_by, target_in, pair_in, targets_at, pairs_at, becomes_by, becomes_at, root_by, start, formula_at, finish, whole, parsed_by, parse_of, form_of}
 use Rattle.types.specs.Limits.{max_bytes, max_depth, levels, max_slots, max_opened}
 

@@ -1,6 +1,6 @@
 -- A formula as a tree, record by record, beside the table of kinds. The first number of a record is its place.
 -- After this file a reader knows what trees there are, and which records own a slot, in which order.
-use Rattle.std.specs.Prelude.{ℕ, zero, suc, ◌+◌, List, [], ◌∷◌}
+use Rattle.std.specs.Prelude.{ℕ, suc, ◌+◌, List, [], ◌∷◌}
 use Rattle.types.specs.Ty.{Ty}
 
 -- what an annotation or an ascription spells: a type, or 4F

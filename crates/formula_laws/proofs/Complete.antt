@@ -21,7 +21,7 @@ use Rattle.heads.specs.declared.DeclAt.TheVariants as D
 use Rattle.formula.specs.declared.Out.TheVariants.{Next}
 use Rattle.formula.specs.Tree.{Spelling, spells, no_type_lem, Decl, plain, typed, annotated, Expr, free, bound, literal, atomic, extension, truth, binary, associative, unary, quantified, ascribed, explicit, Exprs, none, more, Pred, constant, variable, relational, connective, junction, negation, quantification, simple, multiple, application, Preds, end, also, Target, Formula, expression, predicate, becomes, becomes_in, becomes_such, decls, exprs, preds, targets, pairs, slots, slots_all, slots_pred, slots_preds, slots_pairs, slots_of}
 use Rattle.formula.specs.Spell.{spell_spelling, spell_decl, spell_decls, spell, spell_all, spell_pred, spell_preds, spell_target, spell_targets, spell_pairs, spell_formula, size_ty, size_spelling, size_decl, size_decls, size, size_all, size_pred, size_preds, size_targets, size_pairs, size_formula, PlacedDecl, PlacedDecls, Placed, Placed_all, PlacedPred, PlacedPreds, PlacedTargets, PlacedPairs, PlacedFormula}
-use Rattle.heads.specs.Heads.{pick, place, name, byte_of, byte_at, on_byte, expr_head, pred_head, decl_head}
+use Rattle.heads.specs.Heads.{pick, place, byte_of, byte_at, on_byte, expr_head, pred_head, decl_head}
 use Rattle.formula.specs.Reader.{ok, and_then, on_next, many, moved, declare_of, closed, closing, type_got, type_in, no_type, spelled_in, spelling_in}
 use Rattle.formula.specs.Parse.{decl_by, decl_if, decl_at, decls_at, expr_by, pred_by, expr_if, pred_if, expr_at, pred_at, pair_in, targets_at, pairs_at, becomes_by, becomes_at, root_by, start, formula_at}
 use Rattle.types.specs.Limits.{max_depth, max_slots, max_opened, levels}

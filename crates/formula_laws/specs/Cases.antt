@@ -1,6 +1,6 @@
 -- Worked streams, computed: the auditor's cases 9, 10 and 11, and one or more for each rule about places and limits.
 -- A case is a stream (one name is known), its number and its place.
-use Rattle.std.specs.Prelude.{ℕ, zero, suc, ◌+◌, ◌*◌, ◌≡◌, refl, Bool, true, false, List, [], ◌∷◌, ◌++◌, length, drop, replicate, leb, ltb, eqb}
+use Rattle.std.specs.Prelude.{ℕ, ◌≡◌, refl, List, [], ◌∷◌, ◌++◌, replicate}
 use Rattle.types.specs.Record as R
 use Rattle.types.specs.Record.{type_at, type_by, head_of, given_of, deep_by}
 use Rattle.formula.specs.Environment.{first, lookup}

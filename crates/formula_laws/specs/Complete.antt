@@ -22,7 +22,7 @@ use Rattle.heads.specs.declared.RootAt.{RootAt}
 use Rattle.heads.specs.declared.RootAt.TheVariants as R
 use Rattle.formula.specs.declared.St.{St}
 use Rattle.formula.specs.declared.Out.TheVariants.{Next}
-use Rattle.formula.specs.Tree.{Expr, free, bound, literal, atomic, extension, truth, binary, associative, unary, quantified, ascribed, explicit, Pred, constant, variable, relational, connective, junction, negation, quantification, simple, multiple, application, Target, targets, slots}
+use Rattle.formula.specs.Tree.{Expr, free, bound, literal, atomic, extension, truth, binary, associative, unary, quantified, ascribed, explicit, Pred, constant, variable, relational, connective, junction, negation, quantification, simple, multiple, application, Target, targets}
 use Rattle.formula.specs.Spell.{spell, spell_pred, spell_target, spell_targets, size_targets, PlacedTargets}
 use Rattle.heads.specs.Heads.{place, name, byte_of, byte_at, on_byte, on_word, word_at, name_at, op_at, count_at, few_at, expr_body, expr_head, pred_body, pred_head, decl_body, decl_head, target_at, assignment_at, root_head}
 use Rattle.heads.specs.Reads.{root-expression, root-predicate, root_assignment, assignment_becomes, assignment_in, assignment_such}

@@ -1,7 +1,7 @@
 -- What the place of an environment's fault means: the bytes before it begin the spelling of entries with distinct names, limits on depth aside
 -- (`environment_completes`), and the stream itself spells no environment inside the limits (`environment-none`).
 use Prim.Native.Nat.{ℕ, ◌≤◌, ◌<◌}
-use Rattle.std.proofs.Math.Path.{◌≡◌, refl}
+use Rattle.std.proofs.Math.Path.{◌≡◌}
 use Rattle.std.specs.Prelude.{get_or}
 use mathlib.Core.List.{List, [], ◌∷◌, ◌++◌}
 use Rattle.std.proofs.Math.ListN.{length, take}

@@ -3,7 +3,7 @@
 -- Only the last is told as a limit. `environment-told` and `told-environment` say it exactly: an environment that is not too long has the fault of the
 -- entry at which it stops, and no other (`environment_beyond_means` reads the limit off).
 use Prim.Native.Nat.{ℕ, ◌<◌}
-use Rattle.std.proofs.Math.Path.{◌≡◌, refl}
+use Rattle.std.proofs.Math.Path.{◌≡◌}
 use Rattle.std.specs.Prelude.{◌≢◌, get_or, drop}
 use mathlib.Core.List.{List, [], ◌∷◌, ◌++◌}
 use Rattle.std.proofs.Math.ListN.{length}

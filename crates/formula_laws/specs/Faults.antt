@@ -16,7 +16,6 @@ use Rattle.formula.specs.declared.St.{St}
 use Rattle.formula.specs.declared.Fault.TheVariants.{Malformed, Beyond}
 use Rattle.formula.specs.Tree.{Spelling, Decl, Expr, Exprs, Pred, Preds, Target, Formula, decls, exprs, preds, targets, pairs}
 use Rattle.formula.specs.Spell.{spell_spelling, spell_decl, spell_decls, spell, spell_all, spell_pred, spell_preds, spell_target, spell_targets, spell_pairs, spell_formula}
-use Rattle.heads.specs.Heads.{place}
 use Rattle.formula.specs.Reader.{Got, ok, bad}
 use Rattle.formula_laws.specs.Fits.{is_bare}
 use Rattle.formula_laws.specs.Says.{Stand, stand_join}

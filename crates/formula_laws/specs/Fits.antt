@@ -2,7 +2,7 @@
 -- d is the depth of a record: the root's is 0, a child's one more than its parent's, and every record counts: types, 4F, declarations and 0C too.
 -- o is how many declarations are open at a record: from a declaration's own record to the end of its binder.
 -- After this file a reader knows exactly which trees a stream may spell.
-use Rattle.std.specs.Prelude.{ℕ, zero, suc, ◌+◌, ◌≤◌, ◌<◌, ◌≡◌, Bool, true, false, List, [], ◌∷◌}
+use Rattle.std.specs.Prelude.{ℕ, suc, ◌+◌, ◌≤◌, ◌<◌, ◌≡◌, Bool, true, false, List, [], ◌∷◌}
 use Rattle.types.specs.Ty as T
 use Rattle.types.specs.Ty.{Ty}
 use Rattle.formula.specs.Tree.{Spelling, spells, no_type_lem, Decl, plain, typed, annotated, Expr, free, bound, literal, atomic, extension, truth, binary, associative, unary, quantified, ascribed, explicit, Exprs, none, more, Pred, constant, variable, relational, connective, junction, negation, quantification, simple, multiple, application, Preds, end, also, Target, Formula, expression, predicate, becomes, becomes_in, becomes_such, decls, exprs, preds, targets, pairs, slots_of}

@@ -1,6 +1,5 @@
 -- The number and the place that each answer of the two tests stands for.
 use Rattle.std.specs.Prelude.{ℕ}
-use Rattle.formula.specs.declared.Fault.{Fault}
 use Rattle.formula.specs.declared.Fault.TheVariants.{Malformed, Beyond}
 use Rattle.formula.specs.declared.Form.{Form}
 use Rattle.formula.specs.declared.Form.TheVariants.{Good, TooLong, Bad}

@@ -18,7 +18,7 @@ use Rattle.formula.specs.declared.Out.{Out}
 use Rattle.formula.specs.declared.Out.TheVariants.{Next, Stop}
 use Rattle.formula.specs.Tree.{Spelling, Decl, Expr, Exprs, Pred, Preds, Target, Formula, decls, exprs, preds, targets, pairs, slots, slots_all, slots_pred, slots_preds, slots_pairs, slots_of}
 use Rattle.formula.specs.Spell.{spell_spelling, spell_decl, spell_decls, spell, spell_all, spell_pred, spell_preds, spell_target, spell_targets, spell_pairs, spell_formula, PlacedDecl, PlacedDecls, Placed, Placed_all, PlacedPred, PlacedPreds, PlacedTargets, PlacedPairs, PlacedFormula}
-use Rattle.heads.specs.Heads.{pick, place, target_at}
+use Rattle.heads.specs.Heads.{pick, target_at}
 use Rattle.formula.specs.Reader.{Got, ok, bad, and_then, on_next, many, moved, own_of, declare_of}
 use Rattle.formula.specs.Parse.{target_by, target_in, targets_at}
 use Rattle.types.specs.Limits.{max_slots, max_opened}

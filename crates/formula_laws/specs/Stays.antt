@@ -1,15 +1,14 @@
 -- A fault stays: a stream that begins with the same bytes, up to the fault's place and four bytes more (no head is longer), has the same fault
 -- at the same place (`fault-stays`). So with four bytes of the record there, no bytes after them help.
-use Prim.Native.Nat.{ℕ, zero, suc, ◌+◌, ◌*◌, ◌/◌, ◌%◌, ◌≤◌, ◌<◌}
+use Prim.Native.Nat.{ℕ, zero, suc, ◌+◌, ◌≤◌, ◌<◌}
 use native.Mathlib.Omega.{arith}
 use Rattle.std.proofs.Math.Path.{◌≡◌, refl, sym, ap}
-use Rattle.std.proofs.Common.{◌∙◌, drop-cons, get_or-take, ltb-true, eqb-true, lt-ltb, le-ltb}
-use Rattle.std.specs.Prelude.{Bool, length, get_or, take, drop, leb, ltb, eqb}
+use Rattle.std.proofs.Common.{◌∙◌, drop-cons, lt-ltb, le-ltb}
+use Rattle.std.specs.Prelude.{Bool, length, get_or, drop, leb, ltb, eqb}
 use Rattle.std.proofs.Math.Bool.{true, false}
-use mathlib.Core.List.{List, [], ◌∷◌, ◌++◌, append_assoc}
+use mathlib.Core.List.{List, [], ◌∷◌}
 use Rattle.std.proofs.Math.Decide.{dec_le}
 use Rattle.types.specs.Record as R
-use Rattle.types.specs.declared.Name.{Name}
 use Rattle.types.specs.declared.Place.{Place}
 use Rattle.types.specs.Ty as T
 use Rattle.types.specs.Ty.{Ty}
@@ -34,20 +33,14 @@ use Rattle.heads.specs.declared.DeclAt.TheVariants as D
 use Rattle.formula.specs.declared.St.{St}
 use Rattle.formula.specs.declared.Fault.{Fault}
 use Rattle.formula.specs.declared.Fault.TheVariants.{Malformed, Beyond}
-use Rattle.formula.specs.declared.Out.{Out}
 use Rattle.formula.specs.declared.Out.TheVariants.{Next, Stop}
-use Rattle.formula.specs.Tree.{Spelling, spells, no_type_lem, Decl, plain, typed, annotated, Expr, free, bound, literal, atomic, extension, truth, binary, associative, unary, quantified, ascribed, explicit, Exprs, none, more, Pred, constant, variable, relational, connective, junction, negation, quantification, simple, multiple, application, Preds, end, also, Target, Formula, expression, predicate, becomes, becomes_in, becomes_such, decls, exprs, preds, targets, pairs, slots, slots_all, slots_pred, slots_preds, slots_pairs, slots_of}
-use Rattle.formula.specs.Spell.{spell_spelling, spell_decl, spell_decls, spell, spell_all, spell_pred, spell_preds, spell_target, spell_targets, spell_pairs, spell_formula, size_ty, size_spelling, size_decl, size_decls, size, size_all, size_pred, size_preds, size_targets, size_pairs, size_formula, PlacedDecl, PlacedDecls, Placed, Placed_all, PlacedPred, PlacedPreds, PlacedTargets, PlacedPairs, PlacedFormula}
+use Rattle.formula.specs.Tree.{Spelling, spells, no_type_lem, Decl, Expr, none, more, Pred, end, also, Target, Formula, expression, predicate, becomes, becomes_in, becomes_such}
 use Rattle.heads.specs.Reads.{byte_in}
-use Rattle.heads.specs.Heads.{pick, place, byte_of, byte_at, on_byte, on_word, word_at, name_at, op_at, count_at, few_at, expr_body, expr_head, pred_body, pred_head, decl_body, decl_head, target_at}
+use Rattle.heads.specs.Heads.{pick, place, byte_of, byte_at, on_byte, on_word, word_at, name_at, op_at, count_at, few_at, expr_body, expr_head, pred_body, pred_head, decl_head, target_at}
 use Rattle.formula.specs.Reader.{Got, ok, bad, and_then, on_next, many, moved, own_of, declare_of, closed, closing, type_got, type_in, no_type, spelled_in, spelling_in}
-use Rattle.formula.specs.Parse.{decl_by, decl_if, decl_at, decls_at, expr_by, pred_by, expr_if, pred_if, expr_deep, pred_deep, expr_at, pred_at, exprs_at, preds_at, target_by, target_in, pair_in, targets_at, pairs_at, becomes_by, becomes_at, root_by, start, formula_at, finish, whole, Parsed, parsed, too_long, faulty, parsed_by, parse_of}
+use Rattle.formula.specs.Parse.{decl_by, decl_if, decl_at, decls_at, expr_by, pred_by, expr_if, pred_if, expr_deep, pred_deep, expr_at, pred_at, target_by, target_in, pair_in, targets_at, pairs_at, becomes_by, becomes_at, root_by, start, formula_at, finish, whole, faulty, parsed_by, parse_of}
 use Rattle.types.specs.Limits.{max_bytes, max_depth, max_slots, max_opened, levels}
-use Rattle.formula_laws.specs.Fits.{is_bare, FitsTy, FitsSpelling, FitsDecl, FitsDecls, Fits, FitsAll, FitsPred, FitsPreds, FitsTargets, FitsPairs, FitsRoot, FitsFormula}
-use Rattle.formula_laws.specs.Sizes.{length_ty, length_spelling, length_decl, length-decls, length-expr, length-all, length_pred, length-preds, length-targets, length_pairs}
-use Rattle.formula_laws.specs.Says.{Stand, stand_join, on_byte_lem, on-few, choose, ExprSays, PredSays, DeclSays, TargetSays, expr-says, pred_says, decl_says, target-says}
-use Rattle.formula_laws.specs.Shape.{ShapeSpelling, ShapeDecl, ShapeDecls, Shape, ShapeAll, ShapePred, ShapePreds, ShapeTargets, ShapePairs, ShapeFormula, fits-targets}
-use Rattle.formula_laws.specs.Sound.{Holds, Step, TypeRead, SpellingRead, DeclRead, DeclsRead, ExprRead, ExprsRead, PredRead, PredsRead, TargetRead, TargetsRead, PairRead, step-own, step-declare, step-moved, sound-target, sound-targets}
+use Rattle.formula_laws.specs.Says.{ExprSays, PredSays, DeclSays, TargetSays, expr-says, pred_says, decl_says, target-says}
 
 -- where a fault is
 unfoldable pub at_fault : Fault → ℕ

@@ -1,13 +1,12 @@
 -- What a record begins with: its kind and body, and the place after them. Nothing here looks at a child.
 -- After this file a reader knows, kind by kind, which bodies are well formed.
-use Rattle.std.specs.Prelude.{ℕ, zero, suc, ◌+◌, ◌*◌, Bool, true, false, List, [], ◌∷◌, drop, leb, ltb, eqb}
+use Rattle.std.specs.Prelude.{ℕ, ◌+◌, ◌*◌, Bool, true, false, List, [], ◌∷◌, drop, leb, ltb, eqb}
 use Rattle.types.specs.declared.Name.{Name}
 use Rattle.types.specs.declared.Place.{Place}
 use Rattle.heads.specs.declared.Byte.{Byte}
 use Rattle.heads.specs.declared.Byte.TheVariants as B
 use Rattle.heads.specs.declared.Word.{Word}
 use Rattle.heads.specs.declared.Word.TheVariants as W
-use Rattle.heads.specs.declared.ExprHead.{ExprHead}
 use Rattle.heads.specs.declared.ExprHead.TheVariants.{Free, Bound, Literal, Atomic, Extension, Truth, Binary, Associative, Unary, Quantified, Ascribed, Explicit}
 use Rattle.heads.specs.declared.PredHead.{PredHead}
 use Rattle.heads.specs.declared.PredHead.TheVariants.{Constant, Variable, Relational, Connective, Junction, Negation, Quantification, Simple, Multiple, Application}

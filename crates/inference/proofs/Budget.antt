@@ -3,25 +3,24 @@
 -- After this file a reader may believe: 6 and 7 come as the walk meets them (`nodes_fit`, `nodes_full`); the steps of an answer 0 or 1
 -- are the least budget for it, a smaller one gives 7; and a larger budget, a larger capacity with its work memory and a longer
 -- output change nothing of it (`enough`, `too_little`).
-use Prim.Native.Nat.{ℕ, zero, suc, ◌+◌, ◌*◌, ◌-◌, ◌≤◌, ◌<◌}
-use Rattle.std.specs.Prelude.{◌≡◌, refl, Bool, true, false, List, [], ◌∷◌, length}
+use Prim.Native.Nat.{ℕ, ◌+◌, ◌-◌, ◌≤◌, ◌<◌}
+use Rattle.std.specs.Prelude.{◌≡◌, refl, Bool, List, length}
 use Rattle.std.proofs.Math.Path.{sym, ap, ap₂, subst}
-use Rattle.std.proofs.Common.{◌∙◌, length-append, le-leb}
+use Rattle.std.proofs.Common.{◌∙◌, le-leb}
 use native.Mathlib.Omega.{arith}
 use Rattle.std.proofs.Math.Decide.{dec_lt}
-use Rattle.std.proofs.lemmas.List.{length-replicate}
-use Rattle.meter.specs.Meter.{Out, spent, halt, done, Why, broken, full, Exact, Halts}
+use Rattle.meter.specs.Meter.{Out, spent, halt, done, full, Exact}
 use Rattle.formula.specs.Tree.{Formula}
 use Rattle.formula.specs.Environment.{Env, lookup}
 use Rattle.unification.specs.Arena.{U}
 use Rattle.inference.specs.Answer.{Answer, refused, written}
 use Rattle.inference.specs.Finish.{Outcome, typed, failed}
-use Rattle.inference.specs.Infer.{either, zeros, concluded, fitting, answer, answered, infer_of, output_after, work_after}
+use Rattle.inference.specs.Infer.{either, concluded, fitting, answer, answered, infer_of}
 use Rattle.inference.specs.Conclude.{size, Concluded, Ended, ended-spent, ended_full, ended-done}
 use Rattle.inference.proofs.Conclude.{concluded_wider, concluded-exact, concluded_full, concluded-ends}
 use Rattle.inference.specs.Sizes.{Sized}
-use Rattle.inference.specs.Numbers.{Walks, ending, Row, row_2, row_3, row_4, row_5_environment, row_5_formula, row_6, row_7, row_8, row_0_1}
-use Rattle.inference.proofs.Numbers.{walks-answer, rows, after_2, after-other, answer-size, answer-fits}
+use Rattle.inference.specs.Numbers.{Walks, Row, row_2, row_3, row_4, row_5_environment, row_5_formula, row_6, row_7, row_8, row_0_1}
+use Rattle.inference.proofs.Numbers.{walks-answer, rows}
 
 -- ---- what a formula's conclusion is and costs, whatever the capacity and the budget
 module _ (Γ : Env) (f : Formula) where

@@ -14,7 +14,7 @@ use Rattle.unification.specs.Good.{Assignment, Admits, Good, spelt, extend, exte
 use Rattle.unification.specs.Readers.{solved-exact, read-exact}
 use Rattle.unification.specs.Ops.{Bench, Ready, Ran}
 use Rattle.unification.proofs.Ops.{exec_full, exec_wider}
-use Rattle.walk.specs.Writer.{Row, at}
+use Rattle.walk.specs.Writer.{Row}
 use Rattle.walk.specs.Walk.{walked}
 use Rattle.walk.specs.Safe.{SlotsIn}
 use Rattle.walk.specs.Verdict.{start}

@@ -1,9 +1,9 @@
 -- What inference costs: every part of it is metered, and the test of a reference answers as `solved` does, at `solved`'s cost.
 -- After this file a reader may believe that a conclusion has a price, the same at every budget, and that a smaller budget is spent.
-use Rattle.std.specs.Prelude.{ℕ, zero, suc, ◌+◌, ◌≤◌, ◌<◌, ◌≡◌, Bool, true, false, List, [], ◌∷◌, ◌++◌}
+use Rattle.std.specs.Prelude.{ℕ, ◌+◌, ◌≤◌, ◌<◌, ◌≡◌, Bool, true, false, List, [], ◌∷◌}
 use Rattle.std.proofs.Math.Path.{refl, ap}
-use Rattle.std.proofs.Common.{sym, ◌∙◌, ap₂, subst, arith}
-use Rattle.meter.specs.Meter.{Out, spent, halt, done, Why, M, ret, ◌>>=◌, Shift, same, wreck, late, wait, lost, Within, w_spent, w_halt, w_done, Metered, metered_ret, metered_bind, mapped, mapped-done, mapped-shift, mapped-within, Exact, exact-ret, exact_eq, exact-map, exact-bind}
+use Rattle.std.proofs.Common.{sym, ◌∙◌, subst}
+use Rattle.meter.specs.Meter.{Out, spent, halt, done, Why, Shift, same, wreck, late, wait, lost, Within, w_spent, w_halt, w_done, Metered, metered_ret, metered_bind, mapped, mapped-done, mapped-shift, mapped-within}
 use Rattle.types.specs.Ty.{Ty}
 use Rattle.formula.specs.Environment.{Env}
 use Rattle.formula.specs.Tree.{Formula}
@@ -14,7 +14,7 @@ use Rattle.unification.specs.Ops.{Bench}
 use Rattle.unification.proofs.Ops.{exec_metered}
 use Rattle.walk.specs.Writer.{Row}
 use Rattle.inference.specs.Answer.{Problem}
-use Rattle.inference.specs.Finish.{Finding, found, unsolved, finding, test, Question, Findings, noted, ask, names, slots, Outcome, test_slots, walk_problems, finish}
+use Rattle.inference.specs.Finish.{Finding, found, unsolved, finding, test, Question, ask, names, slots, test_slots, finish}
 use Rattle.inference.specs.Infer.{concluded}
 
 -- ---- the test

@@ -1,9 +1,9 @@
 -- What the arena's memory holds before the walk does not matter, nor how much more of it there is than the nodes need.
 -- After this file a reader may believe that the conclusion reckoned over zeros is the one reached over any memory with room.
-use Prim.Native.Nat.{ℕ, ◌+◌, ◌*◌, ◌≤◌, ◌<◌}
+use Prim.Native.Nat.{ℕ, ◌*◌, ◌≤◌}
 use Rattle.std.specs.Prelude.{◌≡◌, ◌⊎◌, Bool}
 use Rattle.std.proofs.Math.Path.{refl, ap, ap₂}
-use Rattle.std.proofs.Common.{sym, ◌∙◌, subst, arith}
+use Rattle.std.proofs.Common.{◌∙◌, arith}
 use Rattle.std.proofs.Math.Logic.{inl, inr}
 use mathlib.Core.List.{List, [], ◌∷◌, ◌++◌}
 use Rattle.std.proofs.Math.ListN.{length}
@@ -12,7 +12,7 @@ use Rattle.meter.specs.Meter.{Out, M, ret, on, ◌>>=◌}
 use Rattle.types.specs.Ty.{Ty}
 use Rattle.formula.specs.Environment.{Env}
 use Rattle.formula.specs.Tree.{Formula}
-use Rattle.unification.specs.Arena.{Words, U, solved, read}
+use Rattle.unification.specs.Arena.{Words, U}
 use Rattle.unification.specs.Ops.{Bench, nodes, exec}
 use Rattle.unification.specs.Frame.{Alike, solved-alike, read_alike, Like, like_spent, like_halt, like_done, Benches, Room}
 use Rattle.unification.proofs.Frame.{exec-alike}

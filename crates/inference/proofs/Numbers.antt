@@ -19,7 +19,7 @@ use Rattle.inference.specs.Finish.{Outcome, typed, failed}
 use Rattle.inference.specs.Infer.{either, zeros, sized, fitting, answer, answered, blamed, formed, infer_of, output_after, work_after}
 use Rattle.inference.specs.Sizes.{long-environment, long-formula}
 use Rattle.inference.proofs.Sizes.{sized-holds}
-use Rattle.inference.specs.Conclude.{size, Ended, ended-spent, ended_full, ended-done}
+use Rattle.inference.specs.Conclude.{Ended, ended-spent, ended_full, ended-done}
 use Rattle.inference.proofs.Conclude.{concluded-ends}
 use Rattle.inference.specs.Numbers.{Row, row_8, row_0_1, ending, Walks, row_6, row_7, row_3, row_5_environment, row_4, row_5_formula, SizesHold, row_2, TooLong}
 

@@ -1,6 +1,6 @@
 -- What an answer of the inference entry is: a number, a place, a length, steps, and the bytes it writes.
 -- After this file a reader can write down the bytes of any answer, entry by entry, as the format's records 50, 51 and 60.
-use Rattle.std.specs.Prelude.{ℕ, ◌+◌, ◌/◌, ◌%◌, List, [], ◌∷◌, ◌++◌, length}
+use Rattle.std.specs.Prelude.{ℕ, ◌/◌, ◌%◌, List, [], ◌∷◌, ◌++◌, length}
 use Rattle.types.specs.Ty.{Ty, spell}
 
 -- ---- problems: the problem's number, its place, and the name of a problem 3

@@ -4,7 +4,6 @@
 -- finish be asked over the arena that this leaves. From some budget on it answers, and what it answers is `outcome`, the one that `infer_of` gives: the same types, or
 -- the same problems in the same order at the same places. `outcome-run`: there is such a run. (What may differ is the price.)
 use Prim.Native.Nat.{◌+◌, ◌*◌}
-use Rattle.std.specs.Prelude.{refl}
 use Rattle.std.proofs.Common.{arith}
 use Rattle.meter.specs.Meter.{Exact}
 use Rattle.formula.specs.Environment.{Env}

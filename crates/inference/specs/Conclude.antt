@@ -3,7 +3,6 @@
 -- After this file a reader knows when the walk and the finish end by 6, by 7, or with an outcome; that no reference of theirs leaves
 -- the arena, so that the layer's own 2 never comes up; and what the outcome says of the assignments that the arena admits.
 use Rattle.std.specs.Prelude.{ℕ, ◌+◌, ◌*◌, ◌≤◌, ◌<◌, ◌≡◌, length}
-use Rattle.std.proofs.Math.Path.{refl}
 use Rattle.std.proofs.Common.{arith}
 use mathlib.Core.List.{List, [], ◌∷◌, ◌++◌}
 use Rattle.std.proofs.lemmas.List.{length-replicate}

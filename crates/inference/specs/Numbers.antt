@@ -5,7 +5,7 @@
 -- 8 exactly if the finished answer is longer than the output (`number_8`), 6 and 7 as the walk meets them (`nodes_fit`, `nodes_full`);
 -- and of output and work: untouched after 2, the answer's bytes and zeros after any other number.
 use Rattle.std.specs.Prelude.{ℕ, ◌-◌, ◌≤◌, ◌<◌, List, length}
-use Rattle.std.proofs.Math.Path.{◌≡◌, refl}
+use Rattle.std.proofs.Math.Path.{◌≡◌}
 use Rattle.meter.specs.Meter.{Out, spent, halt, done, full}
 use Rattle.types.specs.declared.Place.{Place}
 use Rattle.formula.specs.declared.Fault.TheVariants.{Malformed, Beyond}
@@ -18,7 +18,6 @@ use Rattle.inference.specs.Answer.{Answer, refused}
 use Rattle.inference.specs.Finish.{Outcome}
 use Rattle.inference.specs.Infer.{concluded, answer}
 pub use Rattle.inference.specs.Sizes.{Sized}
-use Rattle.inference.specs.Conclude.{size}
 
 -- ---- the rows
 module _ (formula environment : List ℕ) (names capacity budget room work : ℕ) where

@@ -1,7 +1,7 @@
 -- The names that are tested are the names that the walk finds: what holds of every name found in the walk's row that the
 -- environment lacks holds of every question about names, and the other way.
 use Rattle.std.specs.Prelude.{ℕ}
-use Rattle.std.proofs.Math.Path.{◌≡◌, refl}
+use Rattle.std.proofs.Math.Path.{◌≡◌}
 use Rattle.std.proofs.Math.Bool.{false}
 use mathlib.Core.List.{List, [], ◌∷◌}
 use Rattle.formula.specs.Environment.{lacks, Env}

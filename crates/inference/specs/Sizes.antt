@@ -1,5 +1,5 @@
 -- Row 2 of the table: the sizes. `sized-holds` reads the test as its six conditions; a stream inside them is never too long to be read.
-use Rattle.std.specs.Prelude.{ℕ, zero, suc, ◌+◌, ◌*◌, ◌≤◌, ◌≡◌, refl, Bool, true, false, List, [], ◌∷◌, ◌++◌, ltb, length}
+use Rattle.std.specs.Prelude.{ℕ, zero, suc, ◌+◌, ◌*◌, ◌≤◌, ◌≡◌, Bool, true, false, List, [], ◌∷◌, ◌++◌, ltb, length}
 use Rattle.std.proofs.Common.{sym, ◌∙◌, ap, subst, le-ltb}
 use Rattle.types.specs.declared.Place.{Place}
 use Rattle.types.specs.Record.{TypeAt, got, malformed, deep, type_at}

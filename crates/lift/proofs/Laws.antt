@@ -1,6 +1,6 @@
 -- The root of a lifting: what its maker answered, with the place after the record.
 use Rattle.std.proofs.Common.{ℕ, ◌≡◌, sym}
-use Rattle.meter.specs.Meter.{Why, broken, full}
+use Rattle.meter.specs.Meter.{broken, full}
 use Rattle.unification.specs.Arena.{Words, Node}
 use Rattle.unification.specs.Make.{build}
 use Rattle.unification.specs.Lift.{crown, crown-done, crown-stop}

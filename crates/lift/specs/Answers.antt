@@ -1,6 +1,6 @@
 -- How a lifting's answers are read: each case as an outcome of `lift_of` of crate `unification`, with the words as they are at exit. Lifting pays nothing.
 use Rattle.std.specs.Prelude.{ℕ}
-use Rattle.meter.specs.Meter.{M, ret, fail, Why, broken, full}
+use Rattle.meter.specs.Meter.{M, ret, fail, broken, full}
 use Rattle.unification.specs.Arena.{Words}
 use Rattle.unification.specs.Lift.{Raised}
 use Rattle.makers.specs.declared.Made.{Made}

@@ -1,8 +1,8 @@
 -- The walk's machine: what each step does to the state, the arena, the book and the output.
 -- A specification is put together from two forms, `then` and `test`; crate `forms` has their laws. A stopped state passes through every step.
-use Rattle.std.specs.Prelude.{ℕ, zero, suc, ◌+◌, ◌-◌, ◌*◌, ◌/◌, ◌%◌, Bool, true, false, List, length, get_or, take, drop, set, eqb, ltb, leb}
+use Rattle.std.specs.Prelude.{ℕ, ◌+◌, ◌-◌, ◌*◌, ◌/◌, ◌%◌, true, List, length, get_or, take, drop, set, eqb, ltb, leb}
 use Rattle.types.specs.Limits.{max_slots, max_names, max_opened}
-use Rattle.meter.specs.Meter.{Out, spent, halt, done, Why, broken, full}
+use Rattle.meter.specs.Meter.{Out, spent, halt, done, broken, full}
 use Rattle.unification.specs.Arena as A
 use Rattle.unification.specs.Make.{build}
 use Rattle.machine.specs.declared.State.{State}

@@ -1,7 +1,7 @@
 -- A table is good exactly if it spells a row of good names (`table-good`, `good-is-table`), and these are the names that the code finds:
 -- every name of a good table is found at its own number (`Usable`), and what is found is a name of the table (`found-is`).
-use Rattle.std.specs.Prelude.{ℕ, zero, suc, ◌+◌, ◌-◌, ◌≤◌, ◌<◌, ◌≡◌, refl, ◌≢◌, Bool, true, false, ◌&&◌, not, List, [], ◌∷◌, ◌++◌, length, get_or, take, drop, leb, eqb}
-use Rattle.std.proofs.Common.{arith, sym, ap, ap₂, ◌∙◌, length-append, length-take, take-append-drop, length-take-le, eq-eqb, le-leb, leb-true, eqb-true}
+use Rattle.std.specs.Prelude.{ℕ, zero, suc, ◌+◌, ◌-◌, ◌≤◌, ◌<◌, ◌≡◌, refl, ◌≢◌, Bool, true, false, ◌&&◌, List, [], ◌∷◌, ◌++◌, length, get_or, take, drop}
+use Rattle.std.proofs.Common.{arith, sym, ap, ◌∙◌, length-append, take-append-drop, length-take-le, eq-eqb, le-leb, leb-true, eqb-true}
 use Rattle.std.proofs.Math.Seq.{take-append_seam, drop-append_seam}
 use Rattle.std.proofs.lemmas.Bool.{not-true}
 use Rattle.name_table.specs.declared.Found.{Found}

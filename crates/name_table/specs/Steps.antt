@@ -2,18 +2,16 @@
 use Prim.Native.Nat.{ℕ, zero, suc, ◌+◌, ◌-◌, ◌≤◌, ◌<◌}
 use Rattle.std.proofs.Common.{add-one, ◌∙◌, length-drop, drop-cons, drop-drop, take_all}
 use native.Mathlib.Omega.{arith}
-use Rattle.std.specs.Prelude.{◌≡◌, Bool, false, ◌&&◌, ◌||◌, not, get_or, take, drop, leb}
+use Rattle.std.specs.Prelude.{◌≡◌, Bool, false, ◌&&◌, not, get_or, take, drop, leb}
 use Rattle.std.proofs.Math.Path.{refl, sym, ap}
 use Rattle.std.proofs.Math.Bool.{true}
-use mathlib.Core.List.{List, [], ◌∷◌, ◌++◌}
+use mathlib.Core.List.{List, [], ◌∷◌}
 use Rattle.std.proofs.Math.ListN.{length, drop_of_length-le}
-use Rattle.std.proofs.Math.Seq.{take-nil, drop-nil}
 use Rattle.std.proofs.Math.Dec.{eqb}
 use borrow.Author.Tests.{lt-leb, le-leb, eq-eqb, ne_eqb, not-true, not-false}
 use Rattle.types.specs.declared.Name.{Name}
 use Rattle.name_table.specs.declared.Found.{Found}
 use Rattle.name_table.specs.declared.Found.TheVariants.{At, Nothing}
-use Rattle.name_table.specs.declared.Part.{Part}
 use Rattle.name_table.specs.declared.Part.TheVariants.{From, Missing}
 use Rattle.name_table.specs.Words.{between, letter, word_byte, all_word, is_word, same}
 use Rattle.name_table.specs.Table.{boolean, at, shift, seek, find, names_of, names, name_end, Located, good_from, good_on, good_name, is_at, good_table}

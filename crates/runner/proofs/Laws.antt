@@ -1,5 +1,5 @@
 -- Small facts for the proofs of this crate.
-use Rattle.std.proofs.Common.{◌≡◌, ◌∙◌, refl, Bool, true, false, leb, sym, ap, ap₂, arith, le-leb, List, [], ◌∷◌, ℕ, zero, suc, ◌+◌, ◌*◌, ◌≤◌, ◌<◌, ◌-◌, ◌&&◌, get_or}
+use Rattle.std.proofs.Common.{◌≡◌, ◌∙◌, refl, Bool, true, false, leb, ap, ap₂, arith, le-leb, List, [], ◌∷◌, ℕ, suc, ◌+◌, ◌*◌, ◌≤◌, ◌<◌, ◌-◌, get_or}
 use Rattle.machine.specs.Machine.{Mach, cell, put_of}
 use Rattle.runner.specs.Begin.{entered_from}
 use types.Run.{OneOf, miss}
@@ -15,7 +15,7 @@ use Rattle.inference.specs.Infer.{sized}
 use Rattle.std.proofs.lemmas.Bool.{lt-leb}
 use Rattle.memory.specs.Memory.{cleared}
 use Rattle.runner.specs.Answers.{told, called}
-use Rattle.runner.specs.Run.{Judged, judged, fault_of}
+use Rattle.runner.specs.Run.{judged, fault_of}
 
 -- a refusal has no bytes
 pub refusal-size : (a : Answer) → OneOf (2 ∷ 3 ∷ 4 ∷ 5 ∷ 6 ∷ 7 ∷ 8 ∷ []) (tag_of the_type a) → ◌≡◌ {A = ℕ} 0 (told a).size

@@ -1,5 +1,5 @@
 -- How a walk begins: its state, and the environment's types by name in the book.
-use Rattle.std.specs.Prelude.{ℕ, zero, suc, ◌+◌, ◌*◌, Bool, true, false, List, get_or}
+use Rattle.std.specs.Prelude.{ℕ, zero, suc, ◌+◌, false, List, get_or}
 use Rattle.types.specs.Limits.{max_names}
 use Rattle.machine.specs.declared.State.{State}
 use Rattle.machine.specs.Machine.{Mach, cell, put_of}

@@ -1,6 +1,6 @@
 -- A whole call step by step, as the entry goes: by the environment's form, then by the formula's, then the walk.
 -- What it comes to is `infer_of` of crate `inference`.
-use Rattle.std.specs.Prelude.{ℕ, ◌+◌, ◌*◌, Bool, true, false, List, take}
+use Rattle.std.specs.Prelude.{ℕ, ◌+◌, ◌*◌, true, false, List, take}
 use Rattle.types.specs.Limits.{book}
 use Rattle.formula.specs.declared.Form.{Form}
 use Rattle.formula.specs.declared.Form.TheVariants.{Good, TooLong, Bad}

@@ -14,7 +14,7 @@ use Rattle.formula_laws.specs.Fits.{Fits, FitsTargets, FitsPairs}
 use Rattle.formula_laws.specs.Sizes.{length-expr, length-targets}
 use Rattle.unification.specs.Arena.{U}
 use Rattle.unification.specs.Make.{builds_power, builds_pair}
-use Rattle.walk.specs.Writer.{at, ◌>>=◌, same, power, pair}
+use Rattle.walk.specs.Writer.{◌>>=◌, same, power, pair}
 use Rattle.walk.specs.Walk.{name, walk, target, products}
 use Rattle.walk.specs.Walk as K
 use Rattle.forms.specs.Forms.{then}

@@ -14,7 +14,7 @@ use Rattle.unification.specs.Arena.{U}
 use Rattle.unification.specs.Ops.{Sound, exec}
 use Rattle.walk.specs.Writer.{Walk, W, done, ◌>>=◌, same, unknown}
 use Rattle.walk.specs.Scripts.{pick, three}
-use Rattle.walk.specs.Walk.{Mode, loose, each, links, relation, stepped, last, walk, walk_all}
+use Rattle.walk.specs.Walk.{Mode, loose, each, links, relation, stepped, walk, walk_all}
 use Rattle.machine.specs.declared.State.{State}
 use Rattle.operators.specs.declared.Plan.{Plan}
 use Rattle.forms.specs.Forms.{then}

@@ -8,7 +8,7 @@ use Rattle.types.specs.Ty.{spell, depth, Below}
 use Rattle.types.specs.Limits.{max_names}
 use Rattle.formula.specs.Environment.{Entry, lacks, holds, Env}
 use Rattle.unification.specs.Arena.{U}
-use Rattle.unification.specs.Ops.{Bench, Ready, Sound, nodes, exec}
+use Rattle.unification.specs.Ops.{Bench, Ready, Sound, exec}
 use Rattle.walk.specs.Writer.{Row, Found, at, absent, find, Walk, W}
 use Rattle.inference.specs.Answer.{spell_problems}
 use Rattle.inference.specs.Finish.{Question, names, walk_problems}

@@ -1,7 +1,7 @@
 -- Budgets, exactly: from which one on an answer is given, and which smaller ones are refused 7 or 6.
 -- The numbers come from `inference`: `size` is how many nodes the walk of a formula makes, `price` the units that its outcome takes,
 -- `fill` the units after which a capacity that is too small is used up.
-use Rattle.std.specs.Prelude.{ℕ, ◌+◌, ◌*◌, ◌-◌, ◌≤◌, ◌<◌, ◌≡◌, refl, ◌⊎◌, ◌↔◌, Bool, true, false, List, length, leb}
+use Rattle.std.specs.Prelude.{ℕ, ◌+◌, ◌*◌, ◌≤◌, ◌<◌, ◌≡◌, refl, ◌⊎◌, ◌↔◌, Bool, true, false, List, length, leb}
 use Rattle.std.proofs.Common.{sym, ◌∙◌, subst, inl, inr}
 use Rattle.std.proofs.Math.Path.{ap}
 use native.Mathlib.Omega.{arith}

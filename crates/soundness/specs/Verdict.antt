@@ -2,7 +2,6 @@
 -- After this file a reader may believe that the finish, over the arena that the walk leaves, tells the three apart, and that the
 -- types it hands out are the typing's, in the order in which a typing is told.
 use Rattle.std.specs.Prelude.{ℕ, ◌≡◌, ◌⊎◌}
-use Rattle.std.proofs.Math.Path.{refl}
 use mathlib.Core.List.{List, []}
 use Rattle.types.specs.Ty.{Ty}
 use Rattle.formula.specs.Environment.{Env}

@@ -5,7 +5,7 @@ use Rattle.std.proofs.Common.{arith}
 use Rattle.types.specs.Ty.{Ty, base, pow, prod, Below}
 use Rattle.types.specs.Record.{got}
 use Rattle.name_table.specs.Laws.{Usable}
-use Rattle.type_grammar.specs.Text.{power_open, bracket_open, bracket_close, times, text, bracketed, nest, nest_right}
+use Rattle.type_grammar.specs.Text.{power_open, bracket_close, times, text, bracketed, nest, nest_right}
 use Rattle.type_grammar.specs.Grammar.{Denotes, leaf, in_power, in_brackets, single, further, whole, operand}
 use Rattle.type_grammar.specs.Parse.{parse}
 use Rattle.type_grammar.specs.Reads.{denoted_is-read, denotes-one}

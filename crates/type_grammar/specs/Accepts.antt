@@ -1,13 +1,13 @@
 -- What the reader accepts denotes the type that it finds (`accepted_denotes`): with `specs/Reads`, it accepts exactly the grammar (`accepts_exactly`).
 -- A token stands where it is found: its bytes are those of the text (`token_stands`).
-use Prim.Native.Nat.{ℕ, zero, suc, ◌+◌, ◌-◌, ◌≤◌, ◌<◌}
+use Prim.Native.Nat.{ℕ, zero, suc, ◌+◌}
 use Rattle.std.proofs.Common.{arith, ◌∙◌, subst, drop-drop, eqb-true}
-use Rattle.std.specs.Prelude.{◌≡◌, ◌↔◌, Bool, true, false, length, get_or, eqb}
+use Rattle.std.specs.Prelude.{◌≡◌, ◌↔◌, Bool, true, false, length, eqb}
 use Rattle.std.proofs.Math.Path.{refl, sym, ap}
 use mathlib.Core.List.{List, [], ◌∷◌, ◌++◌, append_assoc, append-nil}
 use Rattle.std.proofs.Math.ListN.{drop, length-append}
 use Rattle.std.proofs.Math.Seq.{drop-length}
-use Rattle.types.specs.Ty.{Atom, Ty, base, pow, prod, AtomBelow, bool-below, int-below, given_below}
+use Rattle.types.specs.Ty.{Ty, base, pow, prod, AtomBelow, bool-below, int-below, given_below}
 use Rattle.types.specs.Record.{pick, TypeAt, got, malformed, deep, and_then}
 use Rattle.types.specs.Code.{atom_is}
 use Rattle.types.specs.declared.Atom as C

@@ -5,12 +5,12 @@ use Prim.Native.Nat.{ℕ, zero, suc, ◌+◌, ◌-◌, ◌≤◌, ◌<◌}
 use native.Mathlib.Omega.{arith}
 use Rattle.std.proofs.Math.Path.{◌≡◌, refl, sym, ap}
 use Rattle.std.proofs.Common.{◌∙◌, length-append, length-drop, drop_of_length-le}
-use Rattle.std.specs.Prelude.{Bool, List, [], ◌∷◌, ◌++◌, drop, get_or, leb}
+use Rattle.std.specs.Prelude.{Bool, List, [], ◌++◌, drop, get_or, leb}
 use Rattle.std.proofs.Math.Bool.{true, false}
 use Rattle.std.proofs.Math.ListN.{length}
 use Rattle.std.proofs.Math.Dec.{eqb}
-use borrow.Author.Tests.{le-leb, lt-leb, eq-eqb, ne_eqb, eqb-true, eqb-false}
-use Rattle.types.specs.Ty.{Atom, Ty, base, pow, prod, AtomBelow, bool-below, int-below, given_below}
+use borrow.Author.Tests.{le-leb, lt-leb, eq-eqb, eqb-true}
+use Rattle.types.specs.Ty.{Atom, Ty, pow, prod, AtomBelow, bool-below, int-below, given_below}
 use Rattle.types.specs.Record.{pick, TypeAt, got, malformed, deep, and_then}
 use Rattle.types.specs.Code.{atom_is}
 use Rattle.name_table.specs.Laws.{Usable, word_some}
@@ -19,7 +19,7 @@ use Rattle.type_grammar.specs.declared.Token.TheVariants.{Leaf, Power, Open, Clo
 use Rattle.type_grammar.specs.Text.{power_open, bracket_open, bracket_close, times, text_atom}
 use Rattle.type_grammar.specs.Token.{token_of, token_at}
 use Rattle.type_grammar.specs.Parse.{closing, operand_by, times_by, times_on, product_by, operand_of, product_of, ends_at, parse}
-use Rattle.type_grammar.specs.Accepts.{Begins, token_stands, Read, operand-denotes}
+use Rattle.type_grammar.specs.Accepts.{Begins, token_stands, operand-denotes}
 
 -- ---- the rule
 

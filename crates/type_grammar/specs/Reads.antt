@@ -1,5 +1,5 @@
 -- Every text that denotes a type is read to it (`whole-is-read`, `denoted_is-read`); so a text denotes one type at most (`denotes-one`).
-use Prim.Native.Nat.{ℕ, zero, suc, ◌+◌, ◌-◌, ◌≤◌, ◌<◌, max}
+use Prim.Native.Nat.{ℕ, zero, suc, ◌+◌, ◌-◌, ◌≤◌}
 use Rattle.std.proofs.Common.{add-zero, zero-add, sym, ◌∙◌, eq-eqb}
 use native.Mathlib.Omega.{arith}
 use Rattle.std.specs.Prelude.{◌≡◌, refl, Bool, true, false, ◌&&◌, get_or}
@@ -9,17 +9,16 @@ use Rattle.std.proofs.Math.ListN.{length, drop, length-append, length-drop}
 use Rattle.std.proofs.Math.Seq.{drop-length}
 use Rattle.types.specs.Ty.{Atom, Ty, base, pow, prod, AtomBelow, bool-below, int-below, given_below, Below}
 use Rattle.types.specs.Ty as T
-use Rattle.types.specs.Record.{TypeAt, got, malformed, deep, and_then}
+use Rattle.types.specs.Record.{TypeAt, got, and_then}
 use Rattle.types.specs.Code.{atom_is}
 use Rattle.types.specs.Spellings.{past}
 use Rattle.types.specs.declared.Atom as C
 use Rattle.types.specs.declared.Atom.TheVariants as A
 use Rattle.name_table.specs.Words.{between, letter, word_byte, all_word, is_word, same}
-use Rattle.name_table.specs.Table.{boolean, at, find}
 use Rattle.name_table.specs.Laws.{Usable}
 use Rattle.type_grammar.specs.declared.Token.{Token}
 use Rattle.type_grammar.specs.declared.Token.TheVariants.{Leaf, Power, Open, Close, Times, Wrong}
-use Rattle.type_grammar.specs.Text.{power_open, bracket_open, bracket_close, times, text_atom, text, bracketed, nest, nest_right}
+use Rattle.type_grammar.specs.Text.{power_open, bracket_open, bracket_close, times, text_atom}
 use Rattle.type_grammar.specs.Token.{starts, word_of, name_token, word_token, word_token_at, sign_token, token_of, token_at}
 use Rattle.type_grammar.specs.Grammar.{Denotes, leaf, in_power, in_brackets, single, further, Sort, whole, operand}
 use Rattle.type_grammar.specs.Parse.{closing, operand_by, times_by, times_on, product_by, operand_of, product_of, ends_at, parse}

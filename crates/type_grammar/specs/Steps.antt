@@ -1,5 +1,5 @@
 -- One step of each function over tokens, in the order of the code that follows it.
-use Prim.Native.Nat.{ℕ, zero, suc, ◌+◌, ◌-◌, ◌≤◌, ◌<◌}
+use Prim.Native.Nat.{ℕ, suc, ◌+◌, ◌-◌, ◌≤◌, ◌<◌}
 use native.Mathlib.Omega.{arith}
 use Rattle.std.specs.Prelude.{◌≡◌, refl, Bool, true, false, take, drop, eqb}
 use Rattle.std.proofs.Math.Path.{sym, ap}

@@ -1,5 +1,5 @@
 -- What the remaining arm of a match knows of a token.
-use Rattle.std.proofs.Common.{ℕ, refl, Bool, arith, List, [], ◌∷◌, ◌≡◌, ⊎_elim}
+use Rattle.std.proofs.Common.{ℕ, refl, Bool, arith, [], ◌∷◌, ◌≡◌, ⊎_elim}
 use types.Run.{OneOf}
 use denote.Enum.Declared.{tag_of}
 use Rattle.type_grammar.specs.contracts.Token.{the_type}

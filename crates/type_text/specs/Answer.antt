@@ -1,8 +1,8 @@
 -- What the text entries answer, and the page after them.
 -- `number_of`, `place_of` and `length_of` are the one definition of each answer's number, place and length.
-use Rattle.std.specs.Prelude.{ℕ, ◌+◌, ◌-◌, Bool, true, false, List, [], ◌∷◌, ◌++◌, length, take, drop, leb, eqb}
+use Rattle.std.specs.Prelude.{ℕ, ◌+◌, ◌-◌, List, ◌++◌, length, take, drop, leb, eqb}
 use Rattle.types.specs.Limits.{levels, max_depth}
-use Rattle.types.specs.Ty.{Ty, spell, depth}
+use Rattle.types.specs.Ty.{spell, depth}
 use Rattle.types.specs.Record.{pick, TypeAt, got, malformed, deep, type_at}
 use Rattle.name_table.specs.Table.{names, good_table}
 use Rattle.type_grammar.specs.Text.{text}

@@ -1,30 +1,30 @@
 -- What the two entries promise, through `number_of`, `place_of` and `length_of`: refusals leave the page, successes change nothing outside what they
 -- wrote, number 2 means a bad table or position, the reader's answer is the parse's, and reading what was written gives the record back.
-use Rattle.std.specs.Prelude.{ℕ, zero, suc, ◌+◌, ◌-◌, ◌≤◌, ◌<◌, ◌≢◌, ◌↔◌, Bool, take, drop, eqb}
+use Rattle.std.specs.Prelude.{ℕ, ◌+◌, ◌-◌, ◌≤◌, ◌<◌, ◌≢◌, Bool, take, drop, eqb}
 use native.Mathlib.Omega.{arith}
-use Rattle.std.proofs.Common.{zero-add, ◌∙◌, subst, length-append, take_at, drop_at, length-take-le}
+use Rattle.std.proofs.Common.{◌∙◌, subst, drop_at, length-take-le}
 use Rattle.std.proofs.Math.Path.{◌≡◌, refl, sym, ap}
 use Rattle.std.proofs.Math.Bool.{true, false}
-use mathlib.Core.List.{List, [], ◌∷◌, ◌++◌, append-nil}
+use mathlib.Core.List.{List, [], ◌++◌, append-nil}
 use Rattle.std.proofs.Math.ListN.{length}
 use Rattle.std.proofs.Math.Seq.{take-append_seam, drop-length}
 use Rattle.std.proofs.Math.Dec.{leb}
 use borrow.Author.Tests.{eq-eqb, eqb-true, le-leb, lt-leb, leb-true, leb-false}
 use Rattle.types.specs.Ty.{Ty, spell, depth, Below}
 use Rattle.types.specs.Record.{pick, TypeAt, got, malformed, deep, and_then, type_at}
-use Rattle.types.specs.Spellings.{Bytes, Stands, read-stands, spelled-is-read}
-use Rattle.name_table.specs.Table.{names, good_table, Table}
-use Rattle.name_table.specs.Laws.{Usable, table-usable, good-is-table, table-good}
+use Rattle.types.specs.Spellings.{Bytes, read-stands, spelled-is-read}
+use Rattle.name_table.specs.Table.{names, good_table}
+use Rattle.name_table.specs.Laws.{Usable, table-usable, good-is-table}
 use Rattle.type_grammar.specs.Text.{text, nest}
 use Rattle.type_grammar.specs.Grammar.{Denotes, whole}
 use Rattle.type_grammar.specs.Parse.{product_of, ends_at, parse}
 use Rattle.type_grammar.specs.Reads.{whole-is-read, denoted_is-read}
 use Rattle.type_grammar.specs.Accepts.{and_first, ends-got, accepted_denotes}
 use Rattle.type_grammar.proofs.Canonical.{text-denotes}
-use Rattle.type_grammar.specs.Places.{Verdict, misfit, too_deep, verdict, judged, place_rule}
+use Rattle.type_grammar.specs.Places.{misfit, too_deep, verdict, judged, place_rule}
 use Rattle.type_text.specs.declared.Answer.{Answer}
 use Rattle.type_text.specs.declared.Answer.TheVariants.{Done, Bad, Malformed, Deep, NoRoom}
-use Rattle.type_text.specs.Answer.{number_of, length_of, written_by, write_answer, written_page, write_page, read_by, read_answer, record_page, read_page}
+use Rattle.type_text.specs.Answer.{number_of, written_by, write_answer, written_page, write_page, read_by, read_answer, record_page, read_page}
 
 -- ---- a refusal leaves the page as it was
 

@@ -3,12 +3,12 @@ use Rattle.std.specs.Prelude.{ℕ, zero, suc, ◌≡◌, refl, List, [], ◌∷�
 use Rattle.types.specs.Ty.{spell, spell_atom, depth}
 use Rattle.types.specs.Record.{and_then}
 use Rattle.type_grammar.specs.Text.{integer, power_open, bracket_open, bracket_close, times}
-use Rattle.type_grammar.specs.Parse.{parse, product_of, product_by, operand_of, operand_by, times_by, times_on, closing}
+use Rattle.type_grammar.specs.Parse.{product_of, product_by, operand_of, operand_by, times_by, times_on, closing}
 use Rattle.type_grammar.specs.Token.{token_at, token_of, sign_token, word_token, starts}
 use Rattle.name_table.specs.Words.{letter, between}
 use Rattle.name_table.specs.Table.{good_table, good_from, good_on}
 use Rattle.types.specs.Code.{atom_is}
-use Rattle.type_text.specs.declared.Answer.TheVariants.{Done, Bad, Malformed, Deep, NoRoom}
+use Rattle.type_text.specs.declared.Answer.TheVariants.{Done, Malformed, Deep}
 use Rattle.type_text.specs.Answer.{read_answer, read_page, record_page, read_by}
 
 -- the text x in n pairs of ℙ( and )

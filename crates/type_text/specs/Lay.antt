@@ -1,7 +1,7 @@
 -- The reader's second pass: the record of a text that was taken is put into a page.
-use Rattle.std.specs.Prelude.{ℕ, zero, suc, ◌+◌, ◌-◌, ◌≤◌, ◌<◌, ◌%◌, ◌/◌, ◌≡◌, refl, Bool, true, false, List, [], ◌∷◌, ◌++◌, get_or, take, drop, set}
+use Rattle.std.specs.Prelude.{ℕ, zero, suc, ◌+◌, ◌-◌, ◌≤◌, ◌<◌, ◌%◌, ◌/◌, ◌≡◌, refl, List, [], ◌∷◌, ◌++◌, get_or, take, drop, set}
 use native.Mathlib.Omega.{arith}
-use Rattle.std.proofs.Common.{add-one, ◌∙◌, append_assoc, length-append, length-drop, length-take, drop_of_length-le, take-append-drop, take_all, take_at, drop_at, take-suc, length-take-le, get_or-take, drop-drop}
+use Rattle.std.proofs.Common.{add-one, ◌∙◌, append_assoc, length-append, length-drop, drop_of_length-le, take-append-drop, take_all, take_at, drop_at, take-suc, length-take-le, get_or-take, drop-drop}
 use Rattle.std.proofs.Math.Path.{sym, ap}
 use Rattle.std.proofs.Math.ListN.{length, get_or-append}
 use Rattle.std.proofs.lemmas.List.{set_at}
@@ -17,7 +17,7 @@ use Rattle.name_table.specs.Table.{names_of, names}
 use Rattle.type_grammar.specs.declared.Token.{Token}
 use Rattle.type_grammar.specs.declared.Token.TheVariants.{Leaf, Power, Open, Close, Times, Wrong}
 use Rattle.type_grammar.specs.Token.{token_at}
-use Rattle.type_grammar.specs.Parse.{closing, operand_by, times_by, times_on, product_by, operand_of, product_of}
+use Rattle.type_grammar.specs.Parse.{closing, operand_by, times_by, times_on, operand_of, product_of}
 use Rattle.type_grammar.specs.Accepts.{and_first, closing-got, Begins, token_stands}
 use Rattle.type_text.specs.declared.page.Room.TheVariants as Rm
 use Rattle.type_text.specs.Page.{Splice, splice_as, splice_length, splice_join, splice_lent}

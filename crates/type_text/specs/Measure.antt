@@ -1,8 +1,8 @@
 -- What measuring finds: a type's text is counted operand by operand, without being written.
-use Rattle.std.specs.Prelude.{ℕ, zero, suc, ◌+◌, ◌-◌, ◌≤◌, ◌<◌, ◌≡◌, refl, Bool, true, false, length, get_or, take, drop}
+use Rattle.std.specs.Prelude.{ℕ, ◌+◌, ◌-◌, ◌≤◌, ◌≡◌, refl, Bool, true, false, length, take, drop}
 use Rattle.std.proofs.Common.{arith, ap, ◌∙◌, length-append, length-drop, length-take-le}
 use Rattle.std.proofs.Math.Path.{sym}
-use mathlib.Core.List.{List, [], ◌∷◌, ◌++◌}
+use mathlib.Core.List.{List, [], ◌++◌}
 use Rattle.std.proofs.Math.ListN.{get_or-eq_default}
 use Rattle.types.specs.Ty.{Ty, base, pow, prod}
 use Rattle.types.specs.Ty as T

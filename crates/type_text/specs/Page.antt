@@ -1,6 +1,6 @@
 -- A lent page: what is left of it, and what putting bytes into it does.
 -- `Splice` says that exactly the bytes x were put, from a place on, and that no other byte changed.
-use Rattle.std.specs.Prelude.{ℕ, zero, suc, ◌+◌, ◌-◌, ◌≤◌, ◌<◌, ◌≡◌, refl, Bool, true, false, List, [], ◌∷◌, ◌++◌, length, get_or, take, drop, set, leb}
+use Rattle.std.specs.Prelude.{ℕ, ◌+◌, ◌-◌, ◌≤◌, ◌<◌, ◌≡◌, refl, Bool, true, false, List, [], ◌∷◌, ◌++◌, length, get_or, take, drop, set, leb}
 use Rattle.std.proofs.Common.{add-one, arith, ap, ◌∙◌, append_assoc, append-nil, drop_of_length-le, length-drop, length-append, take-append-drop, drop-drop, take-suc, take_all, take_at, drop_at, length-take-le}
 use Rattle.std.proofs.Math.Path.{sym}
 use Rattle.std.proofs.lemmas.List.{set_at}

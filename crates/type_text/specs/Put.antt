@@ -1,10 +1,10 @@
 -- Writing a type's text into a page: what each step leaves to do, and that the steps together put the text and nothing else.
-use Rattle.std.specs.Prelude.{ℕ, zero, suc, ◌+◌, ◌-◌, ◌≤◌, ◌<◌, ◌≡◌, refl, Bool, length, take, drop}
+use Rattle.std.specs.Prelude.{ℕ, ◌+◌, ◌-◌, ◌≤◌, ◌≡◌, refl, Bool, length, take, drop}
 use native.Mathlib.Omega.{arith}
 use Rattle.std.proofs.Math.Path.{sym, ap}
 use Rattle.std.proofs.Common.{◌∙◌, length-append, length-drop, take_all}
 use Rattle.std.proofs.Math.Bool.{true, false}
-use mathlib.Core.List.{List, [], ◌∷◌, ◌++◌, append_assoc}
+use mathlib.Core.List.{List, ◌++◌, append_assoc}
 use Rattle.types.specs.Ty.{Ty, base, pow, prod}
 use Rattle.types.specs.Record.{TypeAt, got, malformed, deep, and_then, head_of, deep_by, type_at}
 use Rattle.types.specs.Record as R
@@ -13,7 +13,7 @@ use Rattle.types.specs.Steps.{type-wrong, type-atom, type-power, type-product}
 use Rattle.types.specs.declared.Atom.{Atom}
 use Rattle.types.specs.declared.Head.{Head}
 use Rattle.types.specs.declared.Head.TheVariants.{Atomic, Power, Product, Wrong}
-use Rattle.type_grammar.specs.Text.{power_open, bracket_open, bracket_close, times, text_atom, text}
+use Rattle.type_grammar.specs.Text.{power_open, bracket_open, bracket_close, times, text_atom}
 use Rattle.type_text.specs.Page.{Splice, splice_as, splice_length, splice_join, splice_lent}
 use Rattle.type_text.specs.Measure.{text_in, text_in-atom, text_in-power, text_in-right, text_in-product, in_false}
 

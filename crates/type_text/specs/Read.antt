@@ -1,12 +1,12 @@
 -- The reader's entry, step by step.
-use Rattle.std.specs.Prelude.{ℕ, zero, suc, ◌+◌, ◌-◌, ◌≤◌, ◌<◌, min, ◌≡◌, Bool, true, false, not, List, [], ◌∷◌, ◌++◌, take, drop, leb, eqb}
+use Rattle.std.specs.Prelude.{ℕ, ◌+◌, ◌≤◌, ◌<◌, min, ◌≡◌, Bool, true, false, not, List, leb}
 use native.Mathlib.Omega.{arith}
 use Rattle.std.proofs.Math.Path.{refl, ap}
 use Rattle.std.proofs.Common.{sym, ◌∙◌}
 use Rattle.std.proofs.Math.ListN.{length}
 use borrow.Author.Tests.{eq-eqb, ne_eqb, le-leb, lt-leb, leb-true, not-true, not-false}
 use Rattle.types.specs.Ty.{Ty, spell, depth}
-use Rattle.types.specs.Record.{pick, TypeAt, got, malformed, deep}
+use Rattle.types.specs.Record.{TypeAt, got, malformed, deep}
 use Rattle.name_table.specs.Table.{names, good_table}
 use Rattle.type_grammar.specs.Parse.{product_of}
 use Rattle.type_text.specs.declared.Fault.{Fault}
@@ -17,7 +17,7 @@ use Rattle.type_text.specs.declared.reader.Scanned.{Scanned}
 use Rattle.type_text.specs.declared.reader.Scanned.TheVariants as S
 use Rattle.type_text.specs.declared.Answer.{Answer}
 use Rattle.type_text.specs.declared.Answer.TheVariants.{Done, Bad, Malformed, Deep, NoRoom}
-use Rattle.type_text.specs.Page.{spend_of, spent-over, spent-left, Splice}
+use Rattle.type_text.specs.Page.{spend_of, spent-over, spent-left}
 use Rattle.type_text.specs.Scan.{scanned_of, type-malformed, type-deep, type-got}
 use Rattle.type_text.specs.Lay.{LayReady, Laid}
 use Rattle.type_text.specs.Answer.{answer_of, read_by, read_answer, record_page, read_page}

@@ -1,8 +1,8 @@
 -- The reader's first pass: of a type it keeps the depth, up to 65, and the room that its record leaves. Else it is the parse.
-use Rattle.std.specs.Prelude.{ℕ, zero, suc, ◌+◌, ◌-◌, ◌≤◌, ◌<◌, min, max, ◌≡◌, refl, Bool, true, false, List, [], ◌∷◌, ◌++◌, length, drop, ltb}
+use Rattle.std.specs.Prelude.{ℕ, zero, suc, ◌+◌, ◌-◌, ◌≤◌, ◌<◌, min, max, ◌≡◌, refl, Bool, true, false, List, ◌++◌, length, ltb}
 use Rattle.std.proofs.Common.{arith, ap, ◌∙◌, length-append, lt-ltb, le-ltb, ltb-true, ltb-false}
 use Rattle.std.proofs.Math.Path.{sym}
-use Rattle.types.specs.Ty.{Ty, base, pow, prod, depth, spell, spell_atom}
+use Rattle.types.specs.Ty.{Ty, pow, prod, depth, spell, spell_atom}
 use Rattle.types.specs.Record.{pick, TypeAt, got, malformed, deep, and_then}
 use Rattle.types.specs.Code.{atom_is}
 use Rattle.types.specs.declared.Atom.{Atom}

@@ -1,10 +1,10 @@
 -- The writer's entry, step by step.
-use Rattle.std.specs.Prelude.{ℕ, zero, suc, ◌+◌, ◌-◌, ◌≤◌, ◌<◌, ◌≡◌, Bool, true, false, not, List, [], ◌∷◌, ◌++◌, length, take, drop, leb, eqb}
+use Rattle.std.specs.Prelude.{ℕ, ◌-◌, ◌≤◌, ◌<◌, ◌≡◌, Bool, true, false, not, List, length, leb}
 use Rattle.std.proofs.Common.{arith, ◌∙◌}
 use Rattle.std.proofs.Math.Path.{refl, sym, ap}
 use borrow.Author.Tests.{eq-eqb, ne_eqb, le-leb, lt-leb, leb-true, not-true, not-false}
 use Rattle.types.specs.Ty.{Ty}
-use Rattle.types.specs.Record.{pick, TypeAt, got, malformed, deep, type_at}
+use Rattle.types.specs.Record.{TypeAt, got, malformed, deep, type_at}
 use Rattle.name_table.specs.Table.{names, good_table}
 use Rattle.type_grammar.specs.Text.{text}
 use Rattle.type_text.specs.declared.Fault.{Fault}
@@ -14,8 +14,8 @@ use Rattle.type_text.specs.declared.page.Room.TheVariants.{Left, Over}
 use Rattle.type_text.specs.declared.writer.Measured.{Measured}
 use Rattle.type_text.specs.declared.writer.Measured.TheVariants as M
 use Rattle.type_text.specs.declared.Answer.{Answer}
-use Rattle.type_text.specs.declared.Answer.TheVariants.{Done, Bad, Malformed, Deep, NoRoom}
-use Rattle.type_text.specs.Page.{spend_of, spent-over, spent-left, Splice}
+use Rattle.type_text.specs.declared.Answer.TheVariants.{Done, Bad, Malformed, NoRoom}
+use Rattle.type_text.specs.Page.{spend_of, spent-over, spent-left}
 use Rattle.type_text.specs.Measure.{text_in, in_false, measured_of}
 use Rattle.type_text.specs.Put.{Ready, Written}
 use Rattle.type_text.specs.Answer.{answer_of, written_by, write_answer, written_page, write_page}

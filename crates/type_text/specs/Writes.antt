@@ -1,22 +1,21 @@
 -- The writer's answer, whole: each answer exactly when its condition is the first to hold.
 -- The record's faults are told by `Leads` of `types`: everything before the faulty record belongs to a type.
-use Rattle.std.specs.Prelude.{ℕ, ◌+◌, ◌-◌, ◌≤◌, ◌<◌, ◌≡◌, ◌≢◌, Bool, List, [], ◌∷◌, ◌++◌, length, drop}
-use Rattle.std.proofs.Common.{arith, ap, ◌∙◌, subst, append-nil}
+use Rattle.std.specs.Prelude.{ℕ, ◌+◌, ◌-◌, ◌≤◌, ◌<◌, ◌≡◌, ◌≢◌, Bool, List, length, drop}
+use Rattle.std.proofs.Common.{arith, ◌∙◌, subst}
 use Rattle.std.proofs.Math.Path.{refl, sym}
 use Rattle.std.proofs.Math.Bool.{true, false}
-use Rattle.std.proofs.Math.Seq.{drop-length}
 use Rattle.std.proofs.Math.Dec.{leb, eqb}
 use borrow.Author.Tests.{eq-eqb, ne_eqb, eqb-true, eqb-false, le-leb, lt-leb, leb-true, leb-false}
-use Rattle.types.specs.Ty.{Ty, spell, depth, Below}
+use Rattle.types.specs.Ty.{Ty}
 use Rattle.types.specs.Record.{pick, TypeAt, got, malformed, deep, head_of, wrong, type_at}
-use Rattle.types.specs.Spellings.{Bytes, Stands, read-stands, stands-is-read, spelled-is-read}
+use Rattle.types.specs.Spellings.{Bytes, Stands, read-stands, stands-is-read}
 use Rattle.types.specs.Faults.{Leads, level, malformed_means, deep_means, means_malformed, means_deep}
 use Rattle.name_table.specs.Table.{names, good_table}
 use Rattle.type_grammar.specs.Text.{text}
 use Rattle.type_text.specs.declared.Answer.{Answer}
 use Rattle.type_text.specs.declared.Answer.TheVariants.{Done, Bad, Malformed, Deep, NoRoom}
 use Rattle.type_text.specs.Answer.{written_by, write_answer}
-use Rattle.type_text.specs.Entries.{write_bad-table, write_bad_position, write_by_record, is-written}
+use Rattle.type_text.specs.Entries.{write_bad-table, write_bad_position, write_by_record}
 
 -- the table is good and the position is in the page
 pub record Ready (tab page : List ℕ) (pos : ℕ) : Type 0 where

@@ -1,5 +1,5 @@
 -- How the entry's ways add up to one call.
-use Rattle.std.proofs.Common.{ℕ, zero, suc, ◌+◌, ◌-◌, ◌*◌, ◌≤◌, ◌<◌, ap₂, subst, arith, List, [], ◌∷◌, ◌++◌, ◌≡◌, refl, sym, ap, ◌∙◌, Bool, true, false, length, take, replicate, get_or}
+use Rattle.std.proofs.Common.{ℕ, ◌+◌, ◌-◌, ◌*◌, ◌≤◌, ◌<◌, subst, List, ◌≡◌, refl, sym, ap, ◌∙◌, true, false, length, take, replicate, get_or}
 use Rattle.formula.specs.declared.Fault.{Fault}
 use Rattle.formula.specs.declared.Form.{Form}
 use Rattle.formula.specs.declared.Form.TheVariants.{Good, TooLong, Bad}
@@ -17,7 +17,7 @@ use Rattle.runner.specs.declared.Answer.TheVariants.{Oversized}
 use Rattle.runner.specs.Answers.{told, Call, called, call_of}
 use Rattle.runner.specs.Run.{Judged, judged, run_of, judge_of, fault_of}
 use Rattle.runner.specs.Calls.{closed, formula_call, environment_call}
-use Rattle.assembly.specs.Entry.{calls_infer, oversized_call}
+use Rattle.assembly.specs.Entry.{calls_infer}
 
 -- ---- by the formula's form
 module _ (form : Form) (s env types : List ℕ) (cap budget : ℕ) (out work : List ℕ) where

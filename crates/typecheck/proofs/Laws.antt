@@ -1,16 +1,16 @@
 -- Small facts for the proofs of this crate.
-use Rattle.std.proofs.Common.{ℕ, zero, suc, ◌+◌, ◌-◌, ◌*◌, ◌≤◌, ◌<◌, sym, ap, ap₂, subst, arith, length-take-le, lt-ltb, le-ltb, List, [], ◌∷◌, ◌++◌, ◌≡◌, ◌∙◌, refl, Bool, true, false, ltb, length, take, drop}
+use Rattle.std.proofs.Common.{ℕ, ◌+◌, ◌≤◌, ◌<◌, sym, ap, ap₂, arith, length-take-le, lt-ltb, le-ltb, List, ◌++◌, ◌≡◌, ◌∙◌, refl, length, take, drop}
 use Rattle.std.proofs.Math.Decide.{dec_lt}
 use Rattle.std.proofs.Math.Seq.{take_all, take-append_seam, length_front}
 use Rattle.machine.specs.declared.State.{State}
 use Rattle.forms.specs.Forms.{test}
-use Rattle.machine.specs.Machine.{Mach, mach, smaller}
+use Rattle.machine.specs.Machine.{mach, smaller}
 use Rattle.memory.specs.Memory.{cleared}
 use Rattle.forms.specs.Forms.{then}
 use Rattle.walker.specs.Root.{formula_of}
 use Rattle.finisher.specs.Finisher.{finish_of}
 use Rattle.runner.specs.Begin.{start_of, entered_of}
-use Rattle.runner.specs.Run.{Judged, judged, run_of, judge_of}
+use Rattle.runner.specs.Run.{judged, run_of, judge_of}
 use Rattle.runner.specs.declared.Answer.{Answer}
 
 -- the machine that the walk begins with

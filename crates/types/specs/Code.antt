@@ -1,5 +1,4 @@
 -- What the code's answers about type records stand for.
-use Rattle.std.specs.Prelude.{ℕ}
 use Rattle.types.specs.declared.Atom.{Atom}
 use Rattle.types.specs.declared.Atom.TheVariants.{Bool, Integer, Given}
 use Rattle.types.specs.declared.Head.{Head}

@@ -1,13 +1,13 @@
 -- What a fault's place means: the first record, in stream order, that is malformed or lies too deep.
 -- `Way` is the part of a type that stands before one of its records: everything on it is well formed, shallow enough and of known names.
 -- `malformed_means` and `deep_means`, with their converses, say that `type_at` refuses exactly where a way leads to a bad record.
-use Prim.Native.Nat.{ℕ, zero, suc, ◌+◌, ◌≤◌, ◌<◌}
+use Prim.Native.Nat.{ℕ, zero, suc, ◌+◌, ◌<◌}
 use Rattle.std.proofs.Common.{add-zero, arith, ◌∙◌, drop-drop}
 use Rattle.std.proofs.Math.Path.{◌≡◌, refl, sym, ap}
 use Rattle.std.specs.Prelude.{◌≢◌, length}
 use mathlib.Core.List.{List, [], ◌∷◌, ◌++◌, append_assoc}
 use Rattle.std.proofs.Math.ListN.{drop, length-append}
-use Rattle.types.specs.Ty.{Atom, Ty, base, pow, prod, depth, spell, Below}
+use Rattle.types.specs.Ty.{Ty, pow, prod, depth, spell, Below}
 use Rattle.types.specs.Record.{Head, atomic, power, product, wrong, head_of, TypeAt, got, malformed, deep, and_then, deep_by, type_by, type_at}
 use Rattle.types.specs.Spellings.{past, Bytes, Begins, Stands, head-begins, head-power, head-product, bytes_drop, read-stands, spelled-is-read}
 

@@ -1,8 +1,8 @@
 -- `type_at` accepts exactly the spellings of types: a spelling of few enough levels and of names below the count is read to its type,
 -- and what is read is spelled there. A spelling has one type, and no spelling begins another (`spell_one`).
 -- What a fault's place means stands in `Faults`.
-use Rattle.std.specs.Prelude.{ℕ, zero, suc, ◌+◌, ◌*◌, ◌/◌, ◌%◌, ◌≤◌, ◌<◌, max, Bool, true, false, length, get_or, ltb, eqb}
-use Rattle.std.proofs.Common.{arith, ◌∙◌, length-drop, get_or-drop, lt-ltb, ltb-true, eqb-true}
+use Rattle.std.specs.Prelude.{ℕ, zero, suc, ◌+◌, ◌*◌, ◌/◌, ◌%◌, ◌<◌, Bool, true, false, length, get_or, ltb, eqb}
+use Rattle.std.proofs.Common.{arith, ◌∙◌, get_or-drop, lt-ltb, ltb-true, eqb-true}
 use Rattle.std.proofs.Math.Path.{◌≡◌, refl, sym, ap}
 use mathlib.Core.List.{List, [], ◌∷◌, ◌++◌, append_assoc}
 use Rattle.std.proofs.Math.ListN.{drop, length-append}

@@ -3,7 +3,7 @@
 -- there are types a and b with which all its equations hold.
 use Rattle.std.specs.Prelude.{ℕ, zero, suc, ◌≡◌, Bool, true, false, List, [], ◌∷◌, leb}
 use Rattle.std.proofs.Common.{arith}
-use Rattle.types.specs.Ty.{Atom, bool, int, given, Ty, base, pow, prod}
+use Rattle.types.specs.Ty.{bool, int, Ty, base, pow, prod}
 
 -- ---- what stands on the sides of an equation
 pub data Form : Type 0 where

@@ -1,13 +1,13 @@
 -- Worked examples, typed and untypable, at least one for each shape of rule. After this file a reader has seen the rules at work
 -- on small formulas: places are the records' offsets, names 0 and 1 are read f and g, name 2 is read x, name 3 is read S.
-use Rattle.std.specs.Prelude.{ℕ, zero, suc, ◌+◌, ◌<◌, ◌≡◌, refl, List, [], ◌∷◌, leb}
+use Rattle.std.specs.Prelude.{ℕ, zero, suc, ◌≡◌, refl, List, [], ◌∷◌}
 use Rattle.std.proofs.Common.{sym, ◌∙◌, ap, arith}
-use Rattle.types.specs.Ty.{Atom, bool, int, given, Ty, base, pow, prod}
-use Rattle.formula.specs.Environment.{Entry, lacks, holds, Env}
-use Rattle.formula.specs.Tree.{Spelling, spells, no_type_lem, Decl, plain, typed, annotated, Expr, free, bound, literal, atomic, extension, truth, binary, associative, unary, quantified, ascribed, explicit, Exprs, none, more, Pred, constant, variable, relational, connective, junction, negation, quantification, simple, multiple, application, Preds, end, also, Target, Formula, expression, predicate, becomes, becomes_in, becomes_such, decls, targets, slots, slots_all, slots_pred, slots_preds, slots_of}
-use Rattle.typing.specs.Equations.{◌⟷◌, read, parts, relates, first_of, look, never, never_typed}
+use Rattle.types.specs.Ty.{bool, int, given, Ty, base, pow, prod}
+use Rattle.formula.specs.Environment.{lacks, holds, Env}
+use Rattle.formula.specs.Tree.{spells, no_type_lem, plain, typed, annotated, free, bound, literal, atomic, extension, truth, binary, associative, unary, quantified, ascribed, explicit, none, more, constant, relational, junction, quantification, simple, multiple, application, end, also, Formula, expression, predicate, becomes, becomes_in, becomes_such, decls, targets, slots, slots_of}
+use Rattle.typing.specs.Equations.{◌⟷◌, read, parts, relates, first_of, look, never_typed}
 use Rattle.typing.specs.Rules.{atomic_rules, binary_rules, associative_rules, unary_rules, quantified_rules, relational_rules, extension_rule, simple_rule, under, types, Typed, product, Typing}
-use Rattle.typing.specs.Typings.{Some, None, Several, from_list}
+use Rattle.typing.specs.Typings.{None, Several, from_list}
 
 abbrev B : Ty
 B = base bool

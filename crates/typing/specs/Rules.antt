@@ -4,10 +4,10 @@
 -- name in the Rust. After this file a reader knows which formulas have a typing, and which typings they have.
 use Rattle.std.specs.Prelude.{ℕ, zero, suc, ◌+◌, ◌≡◌}
 use mathlib.Core.List.{List, [], ◌∷◌}
-use Rattle.types.specs.Ty.{Atom, bool, int, given, Ty, base, pow, prod}
-use Rattle.formula.specs.Environment.{Entry, lacks, holds, Env}
-use Rattle.formula.specs.Tree.{Spelling, spells, no_type_lem, Decl, plain, typed, annotated, Expr, free, bound, literal, atomic, extension, truth, binary, associative, unary, quantified, ascribed, explicit, Exprs, none, more, Pred, constant, variable, relational, connective, junction, negation, quantification, simple, multiple, application, Preds, end, also, Target, Formula, expression, predicate, becomes, becomes_in, becomes_such, decls, targets, slots, slots_all, slots_pred, slots_preds}
-use Rattle.typing.specs.Equations.{BOOL, ℤ, ℙ, ◌⨯◌, ◌⟷◌, ◌≐◌, a, b, c, d, T, L, R, C, Rule, Obeys, parts, Every, Way, forward, backward, Many, alike, chain, no_rule, Suits, look, never, never_typed}
+use Rattle.types.specs.Ty.{bool, int, given, Ty, base, pow, prod}
+use Rattle.formula.specs.Environment.{lacks, holds, Env}
+use Rattle.formula.specs.Tree.{Spelling, spells, no_type_lem, Decl, plain, typed, annotated, Expr, free, bound, literal, atomic, extension, truth, binary, associative, unary, quantified, ascribed, explicit, Exprs, none, more, Pred, constant, variable, relational, connective, junction, negation, quantification, simple, multiple, application, Preds, end, also, Target, Formula, expression, predicate, becomes, becomes_in, becomes_such, decls, targets, slots, slots_pred}
+use Rattle.typing.specs.Equations.{BOOL, ℤ, ℙ, ◌⨯◌, ◌⟷◌, ◌≐◌, a, b, c, d, T, L, R, C, Rule, Obeys, parts, Every, forward, backward, Many, alike, chain, no_rule, Suits, look, never, never_typed}
 
 -- ---- the operators' rules. T: the record's type, L and R: its left and right part's, C: its only part's; a, b, c, d: any types
 -- 04

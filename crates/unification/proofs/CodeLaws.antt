@@ -1,6 +1,6 @@
 -- Theorems on specs/Code.antt.
 use Prim.Native.Nat.{ℕ, ◌≤◌}
-use Rattle.std.proofs.Math.Path.{◌≡◌, refl}
+use Rattle.std.proofs.Math.Path.{◌≡◌}
 use Rattle.std.proofs.Common.{◌∙◌}
 use Rattle.std.proofs.Math.Bool.{true, false}
 use Rattle.meter.specs.Meter.{spent, halt, done, broken, ret, ◌>>=◌, reading, within_le}

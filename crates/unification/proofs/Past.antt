@@ -1,6 +1,6 @@
 -- Theorems on specs/Past.antt.
 use Prim.Native.Nat.{ℕ, suc, ◌+◌, ◌*◌, ◌-◌, ◌≤◌, ◌<◌}
-use Rattle.std.specs.Prelude.{◌≡◌, refl, ◌++◌, take, drop}
+use Rattle.std.specs.Prelude.{◌≡◌, ◌++◌, take, drop}
 use Rattle.std.proofs.Math.Path.{sym, ap}
 use Rattle.std.proofs.Common.{◌∙◌, ap₂, subst, inl, inr, ext_get_or}
 use native.Mathlib.Omega.{arith}

@@ -1,5 +1,5 @@
 -- Theorems on specs/Steps.antt.
-use Rattle.std.specs.Prelude.{ℕ, ◌≡◌, refl, Bool, true, false, eqb}
+use Rattle.std.specs.Prelude.{ℕ, ◌≡◌, Bool, true, false, eqb}
 use Rattle.meter.specs.Meter.{M, Metered, Paid, metered_ret, metered_tick, metered_bind, metered_reading, Agree, agree_refl, agree-tick, agree-bind, run_metered, run_eq}
 use Rattle.unification.specs.Arena.{node_at, Verdict, unified, mismatch, circular, Meeting, bindLeft, bindRight, agree, clash, down, both, meet, Words, Pair, Answer, bound, assign, next, meeting, unify_at, unify_f, unify}
 use Rattle.unification.specs.Steps.{occurs_metered, resolve_metered, choose-agree, choose_metered}

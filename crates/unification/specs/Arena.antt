@@ -4,9 +4,9 @@
 -- or the kind is none. `resolve`, `occurs`, `solved`, `read` and `unify` then say, for any words, references and budget, what is answered,
 -- what is left of the budget, and (for `unify`) which words stand in every outcome. Order and short cuts are those of the Rust, but for which of two
 -- unknowns is bound (`merge_at`): one unit for each binding followed, one for each node that `occurs` and `solved` stand on after following, one for each pair before it is followed.
-use Rattle.std.specs.Prelude.{ℕ, zero, suc, ◌+◌, ◌*◌, ◌≤◌, ◌<◌, ◌≡◌, refl, Bool, true, false, ◌&&◌, List, [], ◌∷◌, ◌++◌, ltb, eqb, length, get_or, set}
+use Rattle.std.specs.Prelude.{ℕ, suc, ◌+◌, ◌*◌, Bool, true, false, ◌&&◌, List, ltb, eqb, length, get_or, set}
 use Rattle.types.specs.Ty.{Atom, bool, int, given, Ty, base, pow, prod}
-use Rattle.meter.specs.Meter.{Out, spent, halt, done, Why, broken, full, M, ret, fail, tick, ◌>>=◌, reading, run}
+use Rattle.meter.specs.Meter.{broken, M, ret, fail, tick, ◌>>=◌, reading, run}
 
 pub data Node : Type 0 where
   free : Node

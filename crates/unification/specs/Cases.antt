@@ -1,6 +1,6 @@
 -- Small arenas, computed: the record of a type written on a page, and nodes made. The words are those of `Arenas`.
-use Rattle.std.specs.Prelude.{◌≡◌, refl, List, [], ◌∷◌, ◌++◌}
-use Rattle.meter.specs.Meter.{Out, halt, done, broken, full, ◌>>=◌, reading}
+use Rattle.std.specs.Prelude.{◌≡◌, refl, [], ◌∷◌, ◌++◌}
+use Rattle.meter.specs.Meter.{halt, done, broken, full, ◌>>=◌, reading}
 use Rattle.unification.specs.Arena.{resolve, free, power, pair}
 use Rattle.unification.specs.Make.{build}
 use Rattle.unification.specs.Put.{put, room, put_node}

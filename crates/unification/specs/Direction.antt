@@ -5,13 +5,13 @@
 -- earlier assignments that equate the two references, and its failure is given only where none does. `follows_suit`: from arenas that admit the same assignments,
 -- what the rules derive by one direction they derive by every other, with the same verdict, mismatch and circularity told apart, and arenas that admit the same
 -- again. Only the price may differ.
-use Rattle.std.specs.Prelude.{ℕ, ◌*◌, ◌≤◌, ◌<◌, refl, length}
+use Rattle.std.specs.Prelude.{ℕ, ◌*◌, ◌≤◌, ◌<◌, length}
 use Rattle.std.proofs.Math.Path.{◌≡◌}
 use Rattle.unification.specs.Arena.{Node, Words, node_at, Direction, Verdict}
 use Rattle.unification.specs.Good.{Assignment, Good, Root}
 use Rattle.unification.specs.Merge.{Merged}
 use Rattle.unification.specs.Unifies.{Allows}
-use Rattle.unification.specs.ByRule.{ends, Tells, equal}
+use Rattle.unification.specs.ByRule.{ends, Tells}
 use Rattle.unification.specs.Shapes.{Same}
 
 -- ---- directions

@@ -5,7 +5,6 @@
 -- are as they were, and what lies past them is no part of its history (`retold` of Past.antt).
 use Prim.Native.Nat.{ℕ, suc, ◌+◌, ◌≤◌}
 use Rattle.std.specs.Prelude.{◌≡◌, length}
-use Rattle.std.proofs.Math.Path.{refl}
 use Rattle.meter.specs.Meter.{Out, spent, halt, done}
 use Rattle.unification.specs.Arena.{Words}
 use Rattle.unification.specs.Laws.{Reached}

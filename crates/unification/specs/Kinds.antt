@@ -1,12 +1,11 @@
 -- Nodes by their kind: `kind_of` reads three words once for all, and the small laws below say what two kinds make of each other.
-use Rattle.std.specs.Prelude.{ℕ, zero, suc, ◌+◌, ◌*◌, ◌≤◌, ◌<◌, ◌≡◌, ◌≢◌, ◌⊎◌, Bool, true, false, ◌&&◌, eqb, ltb, length, get_or}
+use Rattle.std.specs.Prelude.{ℕ, ◌+◌, ◌*◌, ◌≤◌, ◌<◌, ◌≡◌, ◌≢◌, ◌⊎◌, Bool, true, false, eqb, length, get_or}
 use Rattle.std.proofs.Math.Path.{refl, sym}
-use Rattle.std.proofs.Common.{◌∙◌, ap, ap₂, subst, inl, inr, arith, eqb-true, eq-eqb, ne_eqb, ltb-true, lt-ltb}
+use Rattle.std.proofs.Common.{◌∙◌, inl, inr, arith, eqb-true, lt-ltb}
 use Rattle.std.proofs.lemmas.Bool.{eqb-false}
-use Rattle.types.specs.Ty.{Atom, bool, int, given}
-use Rattle.unification.specs.Arena.{Node, free, link, leaf, power, pair, bad, pick, decode, inside, node_at, Words, Meeting, bindLeft, bindRight, agree, clash, down, both, same_atom, verdict_of, meet}
+use Rattle.types.specs.Ty.{bool, int, given}
+use Rattle.unification.specs.Arena.{Node, free, link, leaf, power, pair, bad, pick, decode, inside, node_at, Words, bindRight, agree, clash, same_atom, verdict_of, meet}
 use Rattle.unification.specs.Good.{Root, node_in}
-use Rattle.unification.specs.Trees.{and_left, and_right}
 
 pub data Kind (k a b : ℕ) : Node → Type 0 where
   is_free : k ≡ 0x4E → Kind k a b free

@@ -2,15 +2,15 @@
 --
 -- `build` is what the public makers do, for any words and count: the node's own number is answered and its words are written; or the slice has no room
 -- for three words more (full, 6); or the count itself lies past the slice, a part is no node of the arena, or the next count would not fit 32 bits (broken, 2).
-use Prim.Native.Nat.{ℕ, zero, suc, ◌+◌, ◌*◌, ◌≤◌, ◌<◌}
+use Prim.Native.Nat.{ℕ, suc, ◌+◌, ◌*◌, ◌≤◌, ◌<◌}
 use Rattle.std.proofs.Math.Path.{◌≡◌, refl, ap}
-use Rattle.std.proofs.Common.{sym, ◌∙◌, ap₂, subst, arith}
+use Rattle.std.proofs.Common.{sym, ◌∙◌, arith}
 use Rattle.std.specs.Prelude.{◌≢◌, Bool, ◌&&◌, eqb, length}
 use Rattle.std.proofs.Math.Bool.{true, false}
 use Rattle.std.proofs.Math.Dec.{ltb}
 use borrow.Author.Tests.{lt-ltb, le-ltb, ltb-true, ne_eqb}
-use Rattle.meter.specs.Meter.{Out, spent, halt, done, Why, broken, full, M, ret, fail, ◌>>=◌, bind-ret, bind-fail}
-use Rattle.types.specs.Ty.{Atom, bool, int, given}
+use Rattle.meter.specs.Meter.{Out, halt, done, Why, broken, full, M, ret, fail, ◌>>=◌, bind-ret, bind-fail}
+use Rattle.types.specs.Ty.{bool, int, given}
 use Rattle.unification.specs.Arena.{Node, free, link, leaf, power, pair, bad, pick, decode, Words, choose}
 use Rattle.unification.specs.Good.{Inside, push_at}
 

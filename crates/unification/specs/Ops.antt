@@ -2,7 +2,7 @@
 -- `exec-exact`: a list whose nodes fit ends, at a price, and then either nothing is listed and the arena admits just what meets the list, or something is
 -- listed and nothing meets it. `exec_full`: where the capacity ends inside the list, it halts full. `exec_metered`, `exec-append`: least budgets, and parts.
 use Prim.Native.Nat.{ℕ, suc, ◌+◌, ◌*◌, ◌≤◌, ◌<◌}
-use Rattle.std.specs.Prelude.{◌≡◌, refl, ◌⊎◌, ltb}
+use Rattle.std.specs.Prelude.{◌≡◌, ◌⊎◌, ltb}
 use Rattle.std.proofs.Common.{sym}
 use Rattle.std.proofs.Math.Path.{subst}
 use mathlib.Core.List.{List, [], ◌∷◌, ◌++◌}

@@ -3,7 +3,7 @@
 -- `reached-alike`: words that agree on its nodes with those of a reached arena are reached too. `retold`: by a history that asks the same of an assignment (`asks`),
 -- in which every comparison succeeded if every one did (`succeeds`), and one failed if one did (`fails`).
 use Prim.Native.Nat.{ℕ}
-use Rattle.std.specs.Prelude.{refl, ◌↔◌}
+use Rattle.std.specs.Prelude.{◌↔◌}
 use Rattle.unification.specs.Arena.{Words}
 use Rattle.unification.specs.Good.{Assignment}
 use Rattle.unification.specs.Laws.{Reached}

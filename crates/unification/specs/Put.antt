@@ -3,19 +3,19 @@
 -- The walk is that of `read`: units are paid the same way, so that whoever was told that a reference is solved can have it written with that budget
 -- (and any larger one). `put-done`: where `read` answers a type and its record fits, the page holds the record from the place on, and is otherwise as it was.
 -- `put_full`: where the record does not fit, the writing halts full. Nothing else can happen there.
-use Prim.Native.Nat.{ℕ, zero, suc, ◌+◌, ◌-◌, ◌*◌, ◌/◌, ◌%◌, ◌≤◌, ◌<◌}
+use Prim.Native.Nat.{ℕ, zero, suc, ◌+◌, ◌/◌, ◌%◌, ◌≤◌, ◌<◌}
 use Rattle.std.proofs.Math.Path.{◌≡◌, refl, sym, ap, ap₂, subst, fun_ext}
 use Rattle.std.proofs.Common.{◌∙◌, append-nil, append_assoc, take-suc-set, lt-ltb, le-ltb}
-use Rattle.std.specs.Prelude.{◌≢◌, Bool, true, false, List, [], ◌∷◌, ◌++◌, ltb, take}
+use Rattle.std.specs.Prelude.{◌≢◌, Bool, List, [], ◌∷◌, ◌++◌, ltb, take}
 use native.Mathlib.Omega.{arith}
 use Rattle.std.proofs.Math.Decide.{dec_lt, dec_le}
 use Rattle.std.proofs.Math.ListN.{length, set, length-append, length-set}
-use Rattle.meter.specs.Meter.{Out, spent, halt, done, Why, broken, full, M, ret, fail, tick, on, ◌>>=◌, at_e, reading, run, Metered, Paid, metered_ret, metered_fail, metered_tick, metered_bind, metered_reading, Agree, agree_refl, agree-tick, agree-bind, run_metered, run_eq, bind-ret, bind_assoc, reading-bind, reading-tick, reading-ret, tick-bind, within_le}
-use Rattle.types.specs.Ty.{Atom, bool, int, given, Ty, base, pow, prod, spell_atom, spell, AtomBelow, bool-below, int-below, given_below, Below}
+use Rattle.meter.specs.Meter.{Out, spent, halt, done, Why, broken, full, M, ret, fail, tick, on, ◌>>=◌, reading, run, Metered, Paid, metered_ret, metered_fail, metered_tick, metered_bind, metered_reading, Agree, agree_refl, agree-tick, agree-bind, run_metered, run_eq, bind-ret, bind_assoc, reading-bind, reading-tick, reading-ret, tick-bind, within_le}
+use Rattle.types.specs.Ty.{Atom, bool, int, given, Ty, base, pow, prod, spell_atom, spell, AtomBelow, given_below, Below}
 use Rattle.unification.specs.Arena.{Node, free, link, leaf, power, pair, bad, decode, Words, U, node_at, choose, resolve, type_node, read}
 use Rattle.unification.specs.Steps.{resolve_metered, choose_metered, choose-agree, read_metered}
-use Rattle.unification.specs.Kinds.{Kind, is_free, is-link, is-bool, is-int, is-given, is-power, is-pair, is_none, kind_of}
-use Rattle.unification.specs.Tasks.{reach, reach-arrive, read-reach, tick-left}
+use Rattle.unification.specs.Kinds.{Kind, is-bool, is-int, is-given, is-power, is-pair, kind_of}
+use Rattle.unification.specs.Tasks.{reach, read-reach}
 use Rattle.unification.specs.Code.{bind_done, bind-spent, bind-halt, read_done, read-spent, read-halt, reach-left}
 
 abbrev pub Page : Type 0

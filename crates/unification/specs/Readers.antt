@@ -1,15 +1,15 @@
 -- Over an arena in solved form `resolve`, `occurs`, `solved` and `read` end, each at a price of its own, and what they answer: the root of the same tree; whether
 -- the unknown stands in the tree; whether the tree is ground; the type that every valuation gives it.
-use Prim.Native.Nat.{ℕ, zero, suc, ◌+◌, ◌*◌, ◌≤◌, ◌<◌}
+use Prim.Native.Nat.{ℕ, zero, suc, ◌≤◌, ◌<◌}
 use Rattle.std.proofs.Math.Path.{◌≡◌, refl, sym, ap, ap₂}
 use Rattle.std.proofs.Common.{◌∙◌, subst, arith}
-use Rattle.std.specs.Prelude.{◌≢◌, Bool, ◌&&◌, ◌||◌, eqb, ltb}
+use Rattle.std.specs.Prelude.{Bool, ◌&&◌, ◌||◌, eqb}
 use Rattle.std.proofs.Math.Bool.{true, false}
-use borrow.Author.Tests.{eqb-true, eqb-false, eq-eqb, ne_eqb}
-use Rattle.meter.specs.Meter.{Out, spent, halt, done, M, ret, fail, tick, ◌>>=◌, Exact, exact-ret, exact-tick, exact_eq, exact-map, exact-bind}
-use Rattle.types.specs.Ty.{Atom, Ty, base, pow, prod}
+use borrow.Author.Tests.{eqb-true, eq-eqb}
+use Rattle.meter.specs.Meter.{M, ret, Exact, exact-ret, exact-tick, exact_eq, exact-map, exact-bind}
+use Rattle.types.specs.Ty.{Ty, base, pow, prod}
 use Rattle.unification.specs.Arena.{Node, free, link, leaf, power, pair, bad, Words, U, node_at, choose, follow, resolve, in_node, occurs_f, occurs, all_node, solved_f, solved, type_node, read_f, read}
-use Rattle.unification.specs.Trees.{Tm, var, tbase, tpow, tprod, eval, has, ground, size, and_left, and_right}
+use Rattle.unification.specs.Trees.{Tm, var, tprod, eval, has, ground, size, and_left, and_right}
 use Rattle.unification.specs.Good.{Fits, Good, Root, Step, good_ind}
 use Rattle.unification.specs.Steps.{resolve_eq, occurs_eq, solved_eq, read_eq}
 

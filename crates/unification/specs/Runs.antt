@@ -4,7 +4,7 @@
 -- lists the same problems in the same order and ends in an arena that admits the same assignments. So what is listed, which references are
 -- solved and what their types are do not depend on which of two unknowns is bound.
 use Prim.Native.Nat.{ℕ}
-use Rattle.std.specs.Prelude.{refl, List, [], ◌∷◌}
+use Rattle.std.specs.Prelude.{List, [], ◌∷◌}
 use Rattle.unification.specs.Arena.{Words, Direction, Verdict}
 use Rattle.unification.specs.Ops.{Op, pay, make, compare, list, Bench, grow, learn, complain}
 use Rattle.unification.specs.ByRule.{ends, Tells}

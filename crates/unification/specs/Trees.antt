@@ -1,10 +1,9 @@
 -- Finite trees over unknowns: what a node of an acyclic arena stands for.
 -- Evaluation under a valuation, substitution, occurrence, groundness, and how they meet: substituting what is absent changes nothing; a ground tree has one
 -- value, any other has two; an unknown inside a tree that is not itself weighs less than the tree, so no finite type equates the two.
-use Rattle.std.specs.Prelude.{ℕ, zero, suc, ◌+◌, ◌*◌, ◌≤◌, ◌<◌, ◌≡◌, refl, ◌≢◌, Bool, true, false, ◌&&◌, ◌||◌, eqb}
-use Rattle.std.proofs.Common.{sym, ◌∙◌, ap, ap₂, arith, eqb-true, eq-eqb, ne_eqb}
-use Rattle.std.proofs.lemmas.Bool.{eqb-false}
-use Rattle.types.specs.Ty.{Atom, bool, int, given, Ty, base, pow, prod}
+use Rattle.std.specs.Prelude.{ℕ, suc, ◌+◌, ◌≤◌, ◌<◌, ◌≡◌, refl, ◌≢◌, Bool, true, false, ◌&&◌, ◌||◌, eqb}
+use Rattle.std.proofs.Common.{ap, ap₂, arith, eqb-true, eq-eqb, ne_eqb}
+use Rattle.types.specs.Ty.{Atom, Ty, base, pow, prod}
 
 pub data Tm : Type 0 where
   var : ℕ → Tm

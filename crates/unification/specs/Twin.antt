@@ -1,10 +1,10 @@
 -- Of any words: where `solved` says yes, `read` answers a type with as much left of the budget (`read_as_solved`).
-use Prim.Native.Nat.{ℕ, zero, suc, ◌+◌, ◌*◌, ◌≤◌, ◌<◌}
+use Prim.Native.Nat.{ℕ, zero, suc, ◌≤◌, ◌<◌}
 use Rattle.std.proofs.Math.Path.{◌≡◌, refl, ap}
-use Rattle.std.proofs.Common.{sym, ◌∙◌, ap₂, subst, arith}
+use Rattle.std.proofs.Common.{sym, ◌∙◌, arith}
 use Rattle.std.specs.Prelude.{Bool}
 use Rattle.std.proofs.Math.Bool.{true, false}
-use Rattle.meter.specs.Meter.{Out, spent, halt, done, M, ret, fail, tick, on, ◌>>=◌, Metered, within_le}
+use Rattle.meter.specs.Meter.{Out, spent, halt, done, M, ret, fail, tick, on, ◌>>=◌, within_le}
 use Rattle.types.specs.Ty.{Ty, base, pow, prod}
 use Rattle.unification.specs.Arena.{Node, free, link, leaf, power, pair, bad, Words, U, node_at, choose, resolve, all_node, solved_f, solved, type_node, read_f, read}
 use Rattle.unification.specs.Steps.{resolve_metered, solved_metered, solved_eq, read_eq}

@@ -1,7 +1,7 @@
 -- The host's numbers, read as outcomes of unification and of the test for unknowns: what is left of the budget, and the words, are those at exit.
 use Rattle.std.specs.Prelude.{ℕ, Bool, true, false, eqb}
-use Rattle.meter.specs.Meter.{Out, spent, halt, done, Why, broken}
-use Rattle.unification.specs.Arena.{Words, U, Verdict, unified, mismatch, circular, Answer}
+use Rattle.meter.specs.Meter.{Out, spent, halt, done, broken}
+use Rattle.unification.specs.Arena.{Words, U, unified, mismatch, circular, Answer}
 
 abbrev pub pick : {A : Type 0} → Bool → A → A → A
 pick true a b = a

@@ -1,14 +1,14 @@
 -- The walk's operations for formulas of the auditor's table, and for each kind of record that compares, computed: nodes are numbered
 -- from 0 as they are made, places are offsets. After this file a reader has seen the order and the places of each kind.
-use Rattle.std.specs.Prelude.{ℕ, zero, suc, ◌+◌, ◌≡◌, refl, List, [], ◌∷◌}
+use Rattle.std.specs.Prelude.{ℕ, ◌≡◌, refl, [], ◌∷◌}
 use Rattle.types.specs.Ty.{int, given, base, pow}
 use Rattle.formula.specs.Environment.{lacks, holds, Env}
-use Rattle.formula.specs.Tree.{spells, no_type_lem, plain, typed, annotated, free, bound, literal, atomic, extension, truth, binary, associative, unary, quantified, ascribed, explicit, none, more, constant, relational, junction, quantification, simple, multiple, application, end, also, expression, predicate, becomes, becomes_in, becomes_such, slots, place}
+use Rattle.formula.specs.Tree.{spells, no_type_lem, plain, typed, annotated, free, bound, literal, atomic, extension, truth, binary, associative, unary, quantified, ascribed, explicit, none, more, constant, relational, junction, quantification, simple, multiple, application, end, also, expression, predicate, becomes, becomes_in, becomes_such, place}
 use Rattle.unification.specs.Ops.{Op, pay, make, compare, list}
-use Rattle.typing.specs.Equations.{part, a, first_of, look}
-use Rattle.walk.specs.Writer.{at, found, find, done, glue, ◌>>=◌, enter, own, node, same, problem, enrol, power}
+use Rattle.typing.specs.Equations.{first_of, look}
+use Rattle.walk.specs.Writer.{found, find, done, glue, ◌>>=◌, enter, own, node, same, problem, enrol}
 use Rattle.walk.specs.Scripts.{pick, play, perform, three, scripted, atomic_scripts, binary_scripts, unary_scripts, quantified_scripts, relational_scripts, associative_scripts}
-use Rattle.walk.specs.Walk.{each, relation, stepped, last, gather, atom, lift, from_env, known, counted, over, name, note_of, notes, meets, spelled, claim, at_decl, declare, ascription, expr, script_of, walk, target, pairs, products, targets_of, shares, forget, walk_formula, walked}
+use Rattle.walk.specs.Walk.{relation, stepped, last, gather, atom, lift, from_env, known, counted, over, name, note_of, notes, meets, spelled, claim, at_decl, declare, ascription, expr, script_of, walk, target, pairs, products, targets_of, shares, forget, walk_formula, walked}
 
 -- operations that make a node
 abbrev new_unknown : Op

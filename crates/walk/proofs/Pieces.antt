@@ -9,7 +9,7 @@ use Rattle.types.specs.Ty.{bool, int, given, Ty, base, pow, prod}
 use Rattle.formula.specs.Environment.{Entry, lacks, holds, Env}
 use Rattle.formula.specs.Tree.{Spelling, spells, no_type_lem, Decl, plain, typed, annotated, decls}
 use Rattle.unification.specs.Good.{Assignment}
-use Rattle.typing.specs.Equations.{c, d, C}
+use Rattle.typing.specs.Equations.{d}
 use Rattle.typing.specs.Rules.{Noted, DeclRule, DeclRules, Counts, Ascribes}
 use Rattle.walk.specs.Writer.{done, glue, ◌>>=◌, node, problem, UNKNOWN, GIVEN, POWER}
 use Rattle.walk.specs.Walk.{counted, note_of, notes, spelled, claim, at_decl, declare, ascription}

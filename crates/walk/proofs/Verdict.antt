@@ -8,7 +8,7 @@ use Rattle.std.proofs.Math.Decide.{ℕ_discrete}
 use Rattle.std.proofs.Math.ListN.{length}
 use Rattle.types.specs.Ty.{bool, int, Ty, base}
 use Rattle.formula.specs.Environment.{Entry, lacks, holds, Env}
-use Rattle.formula.specs.Tree.{none, Formula, slots, slots_of}
+use Rattle.formula.specs.Tree.{Formula, slots_of}
 use Rattle.meter.specs.Meter.{done, Exact, exact-done}
 use Rattle.unification.specs.Arena.{Words, U, node_at, solved}
 use Rattle.unification.specs.Trees.{var, ground, ground-same, ground_differs}

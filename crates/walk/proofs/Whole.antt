@@ -14,7 +14,7 @@ use Rattle.typing.specs.Equations.{a, c, d, C}
 use Rattle.typing.specs.Rules.{DeclRules, under, Typed, TypedPred, TypedTargets, TypedPairs, product, Shared, TypedFormula, Agrees, Typing}
 use Rattle.typing.specs.Typings.{from_list}
 use Rattle.walk.specs.Writer.{Found, at, find, done, POWER, PRODUCT}
-use Rattle.walk.specs.Walk.{over, name, target, pairs, products, targets_of, shares, forget, walk_formula, walked}
+use Rattle.walk.specs.Walk.{over, target, pairs, products, targets_of, shares, forget, walk_formula, walked}
 use Rattle.walk.specs.Triple.{slot_types, Lifted, Tame, tame_eq, tame_done, tame_enter, tame_bind, tame_node, tame_same, Sound, sound-map, sound-bind, sound-enter, sound-node, sound-same, sound-done, Complete, complete_bind, complete_enter, complete_done, complete_node, complete_same, complete_map}
 use Rattle.walk.specs.Pieces.{tame_name, sound-name, complete_name, tame_expr, Declared, seen-under}
 use Rattle.walk.proofs.Pieces.{tame_declare, sound-declare, complete_declare}

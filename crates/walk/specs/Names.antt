@@ -8,12 +8,10 @@ use Rattle.std.proofs.Math.Bool.{true, false}
 use mathlib.Core.List.{List, [], ◌∷◌, ◌++◌, append-nil}
 use Rattle.std.proofs.Math.Dec.{eqb}
 use Rattle.formula.specs.Environment.{Entry, lacks, holds, Env}
-use Rattle.formula.specs.Tree.{place}
 use Rattle.typing.specs.Equations.{first_of}
 use Rattle.typing.specs.Typings.{places, has, meet, meet_all}
 use Rattle.walk.specs.Writer.{Met, Row, Found, at, absent, found, find, W, done, glue, ◌>>=◌, enter, own, node, same}
 use Rattle.walk.specs.Scripts.{Ref, Item, perform}
-use Rattle.walk.specs.Walk.{name}
 
 -- ---- the walk's row, without the names that the environment holds; the places of its slots
 unfoldable pub unheld : Entry → Met → List (ℕ × ℕ)

@@ -2,7 +2,6 @@
 -- needs: what its records make, and once for each name met what the environment's type of it takes, or one where it is lacking.
 use Prim.Native.Nat.{ℕ, suc, ◌+◌, ◌*◌}
 use Rattle.std.specs.Prelude.{◌≡◌, length}
-use Rattle.std.proofs.Math.Path.{refl}
 use mathlib.Core.List.{List, [], ◌∷◌}
 use Rattle.types.specs.Ty.{Ty, base, pow, prod}
 use Rattle.formula.specs.Environment.{Entry, lacks, holds, Env}
@@ -11,7 +10,7 @@ use Rattle.unification.specs.Ops.{nodes}
 use Rattle.typing.specs.Equations.{look}
 use Rattle.typing.specs.Typings.{index_excluded, notings}
 use Rattle.walk.specs.Writer.{Row, W}
-use Rattle.walk.specs.Walk.{Mode, loose, each, links, name}
+use Rattle.walk.specs.Walk.{Mode, loose, each, links}
 
 -- ---- the tables: the last operator number of a row, and the nodes that its operators make
 unfoldable pub atomic_nodes : List (ℕ × ℕ)

@@ -8,11 +8,11 @@ use native.Mathlib.Omega.{arith}
 use Rattle.std.proofs.Math.ListN.{length}
 use Rattle.types.specs.Ty.{bool, int, given, Ty, base, pow, prod}
 use Rattle.formula.specs.Environment.{Entry, lacks, holds, Env}
-use Rattle.formula.specs.Tree.{Decl, slots, place}
+use Rattle.formula.specs.Tree.{Decl}
 use Rattle.unification.specs.Trees.{and_left, and_right}
 use Rattle.unification.specs.Good.{Assignment}
 use Rattle.unification.specs.Ops.{make, nodes, Meets}
-use Rattle.typing.specs.Equations.{◌≐◌, a, b, c, d, T, C, Rule, read, Hold, Obeys, parts}
+use Rattle.typing.specs.Equations.{◌≐◌, a, b, d, T, C, Rule, read, Hold, Obeys, parts}
 use Rattle.typing.specs.Rules.{under}
 use Rattle.walk.specs.Writer.{Row, Found, at, absent, find, W, done, glue, ◌>>=◌, node, enrol, UNKNOWN, BOOLEAN, INTEGER, GIVEN, POWER, PRODUCT}
 use Rattle.walk.specs.Scripts.{Ref, Item, Script, perform, three}

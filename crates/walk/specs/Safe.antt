@@ -8,14 +8,13 @@ use mathlib.Core.List.{List, [], ◌∷◌, ◌++◌}
 use native.Mathlib.Omega.{arith}
 use borrow.Author.Tests.{ltb-true}
 use Rattle.types.specs.Ty.{bool, int, given, Ty, base, pow, prod}
-use Rattle.formula.specs.Tree.{slots, place}
 use Rattle.unification.specs.Trees.{and_left, and_right}
 use Rattle.unification.specs.Good.{Proper}
 use Rattle.unification.specs.Ops.{Op, pay, make, compare, list, nodes, Sound}
 use Rattle.typing.specs.Equations.{a, b, c, d, R}
 use Rattle.walk.specs.Writer.{Row, at, find, W, done, glue, ◌>>=◌, enter, own, node, same, enrol, BOOLEAN, INTEGER, GIVEN, POWER, PRODUCT}
 use Rattle.walk.specs.Scripts.{Ref, arg, new, Item, an_unknown, a_bool, an_int, a_power, a_pair, equal, Script, pick, play, perform}
-use Rattle.walk.specs.Walk.{Mode, loose, each, links, atom, lift, name}
+use Rattle.walk.specs.Walk.{Mode, loose, each, links, atom, lift}
 use Rattle.walk.specs.Tables.{made, ref_ok, scoped, fits}
 use Rattle.walk.specs.Triple.{nodes-append, Either, find-either, there, here}
 

@@ -11,7 +11,6 @@ use Rattle.unification.specs.Good.{Assignment}
 use Rattle.unification.specs.Ops.{nodes, Meets}
 use Rattle.typing.specs.Equations.{Form, letter, part, BOOL, ℤ, ℙ, ◌⨯◌, ◌≐◌, ◌⟷◌, c, d, T, Rule, read, Hold, Many, alike, chain, no_rule, first_of, look, never_typed}
 use Rattle.typing.specs.Rules.{quantified_rules}
-use Rattle.walk.specs.Writer.{own}
 use Rattle.walk.specs.Scripts.{Ref, arg, new, Item, an_unknown, a_bool, an_int, a_power, a_pair, equal, Script, pick, play, scripted, never_items, never_script, quantified_scripts, Gather, all_as, linked, no_script}
 
 -- f holds the types vs from k on

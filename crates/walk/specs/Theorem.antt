@@ -4,7 +4,6 @@ use Rattle.std.proofs.Math.Path.{refl}
 use Rattle.types.specs.Ty.{Ty}
 use Rattle.formula.specs.Environment.{holds, Env}
 use Rattle.unification.specs.Good.{Assignment}
-use Rattle.typing.specs.Equations.{C}
 use Rattle.walk.specs.Writer.{W}
 use Rattle.walk.specs.Scripts.{never_script}
 use Rattle.walk.specs.Walk.{expr}

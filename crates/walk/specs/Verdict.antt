@@ -1,11 +1,11 @@
 -- What a walk that was run says of a formula's typings: none, one or several.
 -- `s` is the arena after the walk's operations were run from an empty one, all of them, within capacity and budget.
 use Rattle.std.specs.Prelude.{ℕ}
-use Rattle.std.proofs.Math.Path.{◌≡◌, refl}
+use Rattle.std.proofs.Math.Path.{◌≡◌}
 use mathlib.Core.List.{List, [], ◌∷◌}
 use Rattle.types.specs.Ty.{Ty}
 use Rattle.formula.specs.Environment.{lacks, Env}
-use Rattle.formula.specs.Tree.{Formula, slots}
+use Rattle.formula.specs.Tree.{Formula}
 use Rattle.unification.specs.Arena.{Words, node_at}
 use Rattle.unification.specs.Good.{Assignment, Good, extend}
 use Rattle.unification.specs.Ops.{Bench, Admitted, Ran}

@@ -6,7 +6,7 @@ use mathlib.Core.List.{List, [], ◌∷◌}
 use native.Mathlib.Omega.{arith}
 use Rattle.types.specs.Ty.{bool, Ty, base}
 use Rattle.formula.specs.Environment.{Entry, lacks, holds, Env}
-use Rattle.formula.specs.Tree.{Formula, slots}
+use Rattle.formula.specs.Tree.{Formula}
 use Rattle.unification.specs.Good.{Assignment}
 use Rattle.typing.specs.Typings.{from_list}
 use Rattle.walk.specs.Writer.{Found, at, absent, find}

@@ -1,7 +1,7 @@
 -- How the walk is written down: a piece of it says, from the count of nodes and the names met so far, which operations it adds, what
 -- it hands on, which names have been met after it and which slots it fills. What a comparison answers enters nowhere.
 -- After this file a reader knows what a piece of the walk is, and how two are put one after the other.
-use Rattle.std.specs.Prelude.{ℕ, zero, suc, ◌+◌, Bool, true, false, List, [], ◌∷◌, ◌++◌, eqb}
+use Rattle.std.specs.Prelude.{ℕ, ◌+◌, Bool, true, false, List, [], ◌∷◌, ◌++◌, eqb}
 use Rattle.unification.specs.Ops.{Op, pay, make, compare, list, nodes}
 
 -- ---- names as met, whether the environment holds them or not: name, reference, first place

@@ -1,6 +1,5 @@
 -- How the writer's answers are read: each case as an outcome of `put` of crate `unification`, with the page as it is at exit.
-use Rattle.std.specs.Prelude.{ℕ}
-use Rattle.meter.specs.Meter.{Out, spent, halt, done, Why, broken, full}
+use Rattle.meter.specs.Meter.{Out, spent, halt, done, broken, full}
 use Rattle.unification.specs.Put.{Page, Sheet}
 use Rattle.write.specs.declared.Wrote.{Wrote}
 use Rattle.write.specs.declared.Wrote.TheVariants as W

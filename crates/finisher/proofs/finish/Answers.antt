@@ -1,5 +1,5 @@
-use Rattle.std.proofs.Common.{◌≡◌, ◌∙◌, refl, sym, ap, arith, rules}
-use Rattle.forms.specs.Forms.{test, then, step, yes_if, no_if, yes_eq, no_eq, yes_lt, no_lt, yes_le, no_le}
+use Rattle.std.proofs.Common.{◌∙◌, refl, sym}
+use Rattle.forms.specs.Forms.{step, yes_if, no_if}
 use Rattle.finisher.specs.Finisher.{finish_of}
 use Rattle.finisher.proofs.finish.Goals as goal
 

@@ -1,5 +1,4 @@
-use Rattle.std.proofs.Common.{◌≡◌, ◌∙◌, refl, ℕ, List, take, sym, ap, arith, length-take-le, rules}
-use Rattle.forms.specs.Forms.{test, then, step, yes_if, no_if, yes_eq, no_eq, yes_lt, no_lt, yes_le, no_le}
+use Rattle.std.proofs.Common.{◌∙◌, refl, ℕ, List, take, sym, ap, length-take-le}
 use Rattle.unification.specs.Put.{put}
 use Rattle.machine.proofs.Laws.{lent}
 use Rattle.finisher.specs.Finisher.{most}

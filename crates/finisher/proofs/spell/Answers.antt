@@ -1,5 +1,5 @@
-use Rattle.std.proofs.Common.{◌≡◌, ◌∙◌, refl, sym, ap, arith, rules}
-use Rattle.forms.specs.Forms.{test, then, step, yes_if, no_if, yes_eq, no_eq, yes_lt, no_lt, yes_le, no_le}
+use Rattle.std.proofs.Common.{◌∙◌, refl, sym, ap}
+use Rattle.forms.specs.Forms.{yes_if, no_if, yes_eq, no_eq}
 use Rattle.write.specs.declared.Wrote.{Wrote}
 use Rattle.write.specs.Answers.{laid}
 use Rattle.finisher.specs.Finisher.{spell_of}

@@ -1,8 +1,6 @@
-use Rattle.std.proofs.Common.{◌≡◌, ◌∙◌, refl, length, sym, ap, arith, rules, ℕ, ◌-◌}
-use Rattle.forms.specs.Forms.{test, then, step, yes_if, no_if, yes_eq, no_eq, yes_lt, no_lt, yes_le, no_le}
+use Rattle.std.proofs.Common.{◌≡◌, length, ◌-◌}
 use Rattle.machine.specs.Machine.{mach}
-use Rattle.finisher.specs.Finisher.{each_of, name_of, test_names_of}
-use Rattle.finisher.proofs.Laws.{each_none, each_more, each_start}
+use Rattle.finisher.specs.Finisher.{each_of, name_of}
 use Rattle.finisher.proofs.test_names.Given as goal
 
 abbrev pub invariant-loop-j : goal.invariant-loop-j

@@ -1,7 +1,5 @@
-use Rattle.std.proofs.Common.{◌≡◌, ◌∙◌, refl, length, sym, ap, arith, rules, ℕ, ◌-◌}
-use Rattle.forms.specs.Forms.{test, then, step, yes_if, no_if, yes_eq, no_eq, yes_lt, no_lt, yes_le, no_le}
-use Rattle.machine.specs.Machine.{mach}
-use Rattle.finisher.specs.Finisher.{each_of, slot_of, test_slots_of}
+use Rattle.std.proofs.Common.{◌∙◌, refl, sym, arith}
+use Rattle.finisher.specs.Finisher.{slot_of, test_slots_of}
 use Rattle.finisher.proofs.Laws.{each_none, each_more, each_start}
 use Rattle.finisher.proofs.test_slots.Goals as goal
 

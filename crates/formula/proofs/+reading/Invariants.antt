@@ -1,9 +1,7 @@
 use Rattle.types.specs.Record.{reach}
-use Rattle.std.proofs.Common.{rules, arith, sym, ap, ℕ, ◌<◌, ◌≤◌, ◌+◌, ◌*◌, ◌≡◌, ◌∙◌, refl}
-use Rattle.heads.specs.Heads.{pred_end}
+use Rattle.std.proofs.Common.{◌≤◌, ◌+◌, ◌*◌, ◌≡◌}
 use Rattle.formula.specs.Reader.{after}
 use Rattle.formula.specs.Parse.{exprs_at, preds_at}
-use Rattle.formula.specs.Steps.{after_stop, expr-wrong, expr-deep, expr-node, pred_wrong, pred_deep_lem, pred_node, by-free, by-bound, by-literal, by-atomic, by-extension, by-truth, by-binary, by-associative, by-unary, by-quantified, by-ascribed, by-explicit, by-constant, by-variable, by-relational, by-connective, by-junction, by-negation, by-quantification, by-simple, by-multiple, by-application, exprs-none, exprs-next, preds-none, preds-next}
 use Rattle.formula.proofs.+reading.Given as goal
 
 abbrev pub decreases-read_expr : goal.decreases-read_expr

@@ -1,5 +1,5 @@
 use Rattle.formula.specs.EnvParse.{capped}
-use Rattle.std.proofs.Common.{lt-ltb, le-ltb, arith, sym, ap, ◌≡◌, ◌∙◌, refl}
+use Rattle.std.proofs.Common.{lt-ltb, le-ltb}
 use Rattle.formula.proofs.cap.Goals as goal
 
 pub returns-then-names-gt-MAX_NAMES : goal.returns-then-names-gt-MAX_NAMES

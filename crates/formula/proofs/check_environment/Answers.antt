@@ -1,5 +1,5 @@
 use Rattle.formula.specs.EnvSteps.{answer-long, answer-whole, capped-most}
-use Rattle.std.proofs.Common.{arith, sym, ap, rules, ◌≡◌, ◌∙◌, refl}
+use Rattle.std.proofs.Common.{arith, ◌∙◌}
 use Rattle.formula.proofs.check_environment.Goals as goal
 
 pub returns-then-s-gt-MAX_BYTES : goal.returns-then-s-gt-MAX_BYTES

@@ -1,5 +1,5 @@
 use Rattle.formula.specs.Steps.{parse-long, parse-bad, parse-over, parse-good}
-use Rattle.std.proofs.Common.{arith, sym, ap, rules, ◌≡◌, ◌∙◌, refl}
+use Rattle.std.proofs.Common.{arith, sym, ◌∙◌}
 use Rattle.formula.proofs.check_formula.Goals as goal
 
 pub returns-then-s-gt-MAX_BYTES : goal.returns-then-s-gt-MAX_BYTES

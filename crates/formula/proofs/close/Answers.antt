@@ -1,5 +1,4 @@
 use Rattle.formula.specs.Reader.{closed_of, closed}
-use Rattle.std.proofs.Common.{◌≡◌, ◌∙◌, refl, sym, ap, rules}
 use Rattle.formula.proofs.close.Goals as goal
 
 pub returns-in-Stop : goal.returns-in-Stop

@@ -1,5 +1,5 @@
 use Rattle.formula.specs.Steps.{declare-room, declare_full, declare-many}
-use Rattle.std.proofs.Common.{arith, sym, ap, rules, ◌≡◌, ◌∙◌, refl}
+use Rattle.std.proofs.Common.{arith}
 use Rattle.formula.proofs.declare.Goals as goal
 
 pub returns-then-st-lt-MAX_SLOTS : goal.returns-then-st-lt-MAX_SLOTS

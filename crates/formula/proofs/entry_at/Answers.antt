@@ -1,4 +1,4 @@
-use Rattle.std.proofs.Common.{◌≡◌, ◌∙◌, refl, sym, ap, arith, rules, eq-eqb, ne_eqb}
+use Rattle.std.proofs.Common.{◌∙◌, sym, eq-eqb, ne_eqb}
 use Rattle.heads.specs.Heads.{on_byte}
 use Rattle.formula.specs.EnvParse.{entry_at}
 use Rattle.formula.proofs.entry_at.Goals as goal

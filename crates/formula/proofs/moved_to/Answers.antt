@@ -1,5 +1,5 @@
 use Rattle.formula.specs.Reader.{moved}
-use Rattle.std.proofs.Common.{◌≡◌, ◌∙◌, refl, sym, ap}
+use Rattle.std.proofs.Common.{refl}
 use Rattle.formula.proofs.moved_to.Goals as goal
 
 pub returns : goal.returns

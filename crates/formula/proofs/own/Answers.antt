@@ -1,5 +1,5 @@
 use Rattle.formula.specs.Steps.{own_room, own_full}
-use Rattle.std.proofs.Common.{arith, sym, ap, rules, ◌≡◌, ◌∙◌, refl}
+use Rattle.std.proofs.Common.{arith}
 use Rattle.formula.proofs.own.Goals as goal
 
 pub returns-then-st-lt-MAX_SLOTS : goal.returns-then-st-lt-MAX_SLOTS

@@ -1,5 +1,5 @@
 use Rattle.formula.specs.Steps.{after_stop, decl_wrong, decl_deep, decl_node, by-plain, by-typed, by-annotated}
-use Rattle.std.proofs.Common.{arith, sym, ap, rules, ◌≡◌, ◌∙◌, refl}
+use Rattle.std.proofs.Common.{sym, ◌∙◌}
 use Rattle.formula.proofs.read_decl.Goals as goal
 
 pub returns-then-left-eq0 : goal.returns-then-left-eq0

@@ -1,9 +1,5 @@
-use Rattle.types.specs.Record.{reach}
 use Rattle.formula.specs.Steps.{decls-none, decls-next}
-use Rattle.formula.specs.Parse.{decls_at}
-use Rattle.formula.specs.Reader.{after}
-use Rattle.formula.specs.declared.Out.{Out}
-use Rattle.std.proofs.Common.{rules, arith, sym, ap, ℕ, ◌≤◌, ◌≡◌, ◌∙◌, refl}
+use Rattle.std.proofs.Common.{arith, ◌∙◌, refl}
 use Rattle.formula.proofs.read_decls.Goals as goal
 
 pub loop-i-init : goal.loop-i-init

@@ -1,9 +1,7 @@
 use Rattle.types.specs.Record.{reach}
-use Rattle.formula.specs.Steps.{decls-none, decls-next}
 use Rattle.formula.specs.Parse.{decls_at}
 use Rattle.formula.specs.Reader.{after}
-use Rattle.formula.specs.declared.Out.{Out}
-use Rattle.std.proofs.Common.{rules, arith, sym, ap, ℕ, ◌≤◌, ◌≡◌, ◌∙◌, refl}
+use Rattle.std.proofs.Common.{◌≤◌, ◌≡◌}
 use Rattle.formula.proofs.read_decls.Given as goal
 
 abbrev pub invariant-loop-i : goal.invariant-loop-i

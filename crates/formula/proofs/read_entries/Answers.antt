@@ -1,6 +1,5 @@
-use Rattle.formula.specs.EnvSteps.{Going, going_start, turn-next, answer-good, answer-out, answer-wrong}
-use Rattle.formula.specs.EnvParse.{entries_from}
-use Rattle.std.proofs.Common.{leb-true, leb-false, rules, arith, sym, ap, ℕ, ◌≤◌, ◌<◌, [], length, refl, ◌≡◌, ◌∙◌}
+use Rattle.formula.specs.EnvSteps.{going_start, turn-next, answer-good, answer-out, answer-wrong}
+use Rattle.std.proofs.Common.{leb-true, leb-false, rules, arith, sym, ◌∙◌}
 use Rattle.formula.proofs.read_entries.Goals as goal
 
 pub loop-turns-init : goal.loop-turns-init

@@ -1,6 +1,6 @@
-use Rattle.formula.specs.EnvSteps.{Going, going_start, turn-next, answer-good, answer-out, answer-wrong}
+use Rattle.formula.specs.EnvSteps.{Going}
 use Rattle.formula.specs.EnvParse.{entries_from}
-use Rattle.std.proofs.Common.{leb-true, leb-false, rules, arith, sym, ap, ℕ, ◌≤◌, ◌<◌, [], length, refl, ◌≡◌, ◌∙◌}
+use Rattle.std.proofs.Common.{◌≤◌, [], length}
 use Rattle.formula.proofs.read_entries.Given as goal
 
 abbrev pub invariant-loop-turns : goal.invariant-loop-turns

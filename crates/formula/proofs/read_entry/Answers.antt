@@ -1,5 +1,5 @@
 use Rattle.formula.specs.EnvSteps.{entered_reach, entry-end, entered_none, entered_again, entered_by_lem, entered_by}
-use Rattle.std.proofs.Common.{◌≡◌, ◌∙◌, refl, sym, ap, arith, rules}
+use Rattle.std.proofs.Common.{◌∙◌, sym, arith}
 use Rattle.formula.proofs.read_entry.Goals as goal
 
 pub bounds-types-i : goal.bounds-types-i

@@ -1,5 +1,5 @@
 use Rattle.formula.specs.Steps.{root_out, root_by_lem}
-use Rattle.std.proofs.Common.{◌≡◌, ◌∙◌, refl, sym, rules}
+use Rattle.std.proofs.Common.{◌∙◌, refl, sym}
 use Rattle.formula.proofs.read_formula.Goals as goal
 
 pub returns-in-Wrong : goal.returns-in-Wrong

@@ -1,5 +1,4 @@
 use Rattle.formula.specs.Steps.{pair-both}
-use Rattle.std.proofs.Common.{arith, sym, ap, rules, ◌≡◌, ◌∙◌, refl}
 use Rattle.formula.proofs.read_pair.Goals as goal
 
 pub returns : goal.returns

@@ -1,5 +1,5 @@
 use Rattle.formula.specs.Steps.{spelling_cut, spelling_type, spelling_deep, spelling_none, after_stop}
-use Rattle.std.proofs.Common.{arith, sym, ap, rules, ◌≡◌, ◌∙◌, refl}
+use Rattle.std.proofs.Common.{sym, ◌∙◌}
 use Rattle.formula.proofs.read_spelling.Goals as goal
 
 pub returns-then-left-eq0 : goal.returns-then-left-eq0

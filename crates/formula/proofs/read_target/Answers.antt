@@ -1,5 +1,5 @@
 use Rattle.formula.specs.Steps.{after_stop, target-wrong, target-own}
-use Rattle.std.proofs.Common.{arith, sym, ap, rules, ◌≡◌, ◌∙◌, refl}
+use Rattle.std.proofs.Common.{sym, ◌∙◌}
 use Rattle.formula.proofs.read_target.Goals as goal
 
 pub returns-in-Stop : goal.returns-in-Stop

@@ -1,8 +1,5 @@
-use Rattle.types.specs.Record.{reach}
 use Rattle.formula.specs.Steps.{targets-none, targets_next}
-use Rattle.formula.specs.Parse.{targets_at}
-use Rattle.formula.specs.Reader.{after}
-use Rattle.std.proofs.Common.{rules, arith, sym, ap, ℕ, ◌≤◌, ◌≡◌, ◌∙◌, refl}
+use Rattle.std.proofs.Common.{arith, ◌∙◌, refl}
 use Rattle.formula.proofs.read_targets.Goals as goal
 
 pub loop-i-init : goal.loop-i-init

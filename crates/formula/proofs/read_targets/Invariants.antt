@@ -1,8 +1,7 @@
 use Rattle.types.specs.Record.{reach}
-use Rattle.formula.specs.Steps.{targets-none, targets_next}
 use Rattle.formula.specs.Parse.{targets_at}
 use Rattle.formula.specs.Reader.{after}
-use Rattle.std.proofs.Common.{rules, arith, sym, ap, ℕ, ◌≤◌, ◌≡◌, ◌∙◌, refl}
+use Rattle.std.proofs.Common.{◌≤◌, ◌≡◌}
 use Rattle.formula.proofs.read_targets.Given as goal
 
 abbrev pub invariant-loop-i : goal.invariant-loop-i

@@ -1,5 +1,5 @@
 use Rattle.formula.specs.Steps.{type_in_lem, type_out, after_stop}
-use Rattle.std.proofs.Common.{arith, sym, ap, rules, ◌≡◌, ◌∙◌, refl}
+use Rattle.std.proofs.Common.{sym, ◌∙◌}
 use Rattle.formula.proofs.read_type.Goals as goal
 
 pub returns-in-Stop : goal.returns-in-Stop

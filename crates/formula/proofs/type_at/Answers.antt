@@ -1,4 +1,3 @@
-use Rattle.std.proofs.Common.{◌≡◌, ◌∙◌, refl, sym, ap, rules}
 use Rattle.formula.proofs.type_at.Goals as goal
 
 pub returns : goal.returns

@@ -1,4 +1,4 @@
-use Rattle.std.proofs.Common.{◌≡◌, ◌∙◌, refl, sym, ap, rules}
+use Rattle.std.proofs.Common.{◌∙◌, sym}
 use Rattle.heads.specs.Reads.{assignment_missing, assignment_becomes, assignment_in, assignment_such, assignment_wrong}
 use Rattle.heads.proofs.assignment_at.Goals as goal
 

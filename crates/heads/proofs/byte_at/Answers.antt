@@ -1,4 +1,4 @@
-use Rattle.std.proofs.Common.{arith, rules}
+use Rattle.std.proofs.Common.{arith}
 use Rattle.heads.specs.Reads.{byte_reached, byte_ended, byte_beyond}
 use Rattle.heads.proofs.byte_at.Goals as goal
 

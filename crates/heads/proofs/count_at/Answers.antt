@@ -1,4 +1,4 @@
-use Rattle.std.proofs.Common.{◌≡◌, ◌∙◌, refl, sym, ap, arith, le-leb, rules}
+use Rattle.std.proofs.Common.{◌∙◌, sym, le-leb}
 use Rattle.std.proofs.lemmas.Bool.{lt-leb}
 use Rattle.heads.specs.Heads.{count_at, on_word}
 use Rattle.heads.proofs.count_at.Goals as goal

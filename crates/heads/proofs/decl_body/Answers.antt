@@ -1,4 +1,4 @@
-use Rattle.std.proofs.Common.{ne_eqb, sym, ap, arith, ◌≡◌, ◌∙◌, refl}
+use Rattle.std.proofs.Common.{ne_eqb}
 use Rattle.heads.specs.Heads.{decl_body}
 use Rattle.heads.proofs.decl_body.Goals as goal
 

@@ -1,5 +1,4 @@
 use Rattle.heads.specs.Heads.{decl_end}
-use Rattle.std.proofs.Common.{rules}
 use Rattle.heads.proofs.decl_end.Goals as goal
 
 pub returns-in-Plain : goal.returns-in-Plain

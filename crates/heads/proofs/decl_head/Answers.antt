@@ -1,4 +1,4 @@
-use Rattle.std.proofs.Common.{◌≡◌, ◌∙◌, refl, sym, ap, arith, rules}
+use Rattle.std.proofs.Common.{◌∙◌, sym}
 use Rattle.heads.specs.Heads.{decl_head, on_byte}
 use Rattle.heads.proofs.decl_head.Goals as goal
 

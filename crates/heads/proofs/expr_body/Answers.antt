@@ -1,4 +1,4 @@
-use Rattle.std.proofs.Common.{ne_eqb, sym, ap, arith, rules, ◌≡◌, ◌∙◌, refl}
+use Rattle.std.proofs.Common.{ne_eqb, sym, arith, ◌∙◌}
 use Rattle.heads.specs.Counts.{atomic_operators, least_listed, binary_operators, associative_operators, least_joined, unary_operators, quantifiers}
 use Rattle.heads.specs.Reads.{op_as, count_as}
 use Rattle.heads.specs.Heads.{expr_body, on_byte, on_word}

@@ -1,4 +1,4 @@
-use Rattle.std.proofs.Common.{◌≡◌, ◌∙◌, refl, sym, ap, arith, rules}
+use Rattle.std.proofs.Common.{◌∙◌, sym, arith}
 use Rattle.heads.specs.Reads.{few-some, few-none}
 use Rattle.heads.specs.Heads.{few_at, on_byte}
 use Rattle.heads.proofs.few_at.Goals as goal

@@ -1,4 +1,4 @@
-use Rattle.std.proofs.Common.{◌≡◌, ◌∙◌, refl, sym, ap, arith, rules}
+use Rattle.std.proofs.Common.{◌∙◌, sym, arith}
 use Rattle.heads.specs.Reads.{name_below, name-past}
 use Rattle.heads.specs.Heads.{name_at, on_word}
 use Rattle.heads.proofs.name_at.Goals as goal

@@ -1,4 +1,4 @@
-use Rattle.std.proofs.Common.{◌≡◌, ◌∙◌, refl, sym, ap, arith, le-ltb, lt-ltb, rules}
+use Rattle.std.proofs.Common.{◌∙◌, sym, le-ltb, lt-ltb}
 use Rattle.heads.specs.Heads.{op_at, on_byte}
 use Rattle.heads.proofs.op_at.Goals as goal
 

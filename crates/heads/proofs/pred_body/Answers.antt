@@ -1,4 +1,4 @@
-use Rattle.std.proofs.Common.{ne_eqb, sym, ap, arith, rules, ◌≡◌, ◌∙◌, refl}
+use Rattle.std.proofs.Common.{ne_eqb, sym, arith, ◌∙◌}
 use Rattle.heads.specs.Counts.{relations, least_joined, least_listed}
 use Rattle.heads.specs.Reads.{op_as, count_as}
 use Rattle.heads.specs.Heads.{pred_body, on_byte, on_word}

@@ -1,4 +1,3 @@
-use Rattle.std.proofs.Common.{◌≡◌, ◌∙◌, refl, sym, ap, rules}
 use Rattle.heads.specs.Heads.{pred_end}
 use Rattle.heads.proofs.pred_end.Goals as goal
 

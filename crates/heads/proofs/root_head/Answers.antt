@@ -1,4 +1,4 @@
-use Rattle.std.proofs.Common.{◌≡◌, ◌∙◌, refl, sym, ap, arith, rules}
+use Rattle.std.proofs.Common.{◌∙◌, sym, arith}
 use Rattle.heads.specs.Reads.{root-missing, root-expression, root-predicate, root_assignment}
 use Rattle.heads.proofs.root_head.Goals as goal
 

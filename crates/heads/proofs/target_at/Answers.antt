@@ -1,4 +1,4 @@
-use Rattle.std.proofs.Common.{◌≡◌, ◌∙◌, refl, sym, ap, arith, rules, eq-eqb, ne_eqb}
+use Rattle.std.proofs.Common.{◌∙◌, sym, eq-eqb, ne_eqb}
 use Rattle.heads.specs.Heads.{target_at, on_byte}
 use Rattle.heads.proofs.target_at.Goals as goal
 

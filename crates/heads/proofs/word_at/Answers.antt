@@ -1,4 +1,4 @@
-use Rattle.std.proofs.Common.{◌≡◌, ◌∙◌, refl, sym, ap, arith, rules}
+use Rattle.std.proofs.Common.{◌∙◌, sym}
 use Rattle.heads.specs.Heads.{word_at, on_byte}
 use Rattle.heads.proofs.word_at.Goals as goal
 

@@ -1,4 +1,4 @@
-use Rattle.std.proofs.Common.{sym, ap, arith, rules, ℕ, ◌<◌, ◌∙◌}
+use Rattle.std.proofs.Common.{sym, ap, arith, ◌∙◌}
 use Rattle.types.specs.Code.{head_is}
 use Rattle.unification.specs.Lift.{lift_by, lift-none, lift-head, power-done, power-stop, left-stop, right-done, right-stop, lift-small}
 use Rattle.lift.specs.Answers.{raised}

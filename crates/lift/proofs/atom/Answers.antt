@@ -1,7 +1,4 @@
-use Rattle.std.proofs.Common.{sym, ap, rules, ◌∙◌}
 use Rattle.types.specs.Code.{atom_is}
-use Rattle.unification.specs.Arena.{leaf}
-use Rattle.unification.specs.Make.{build}
 use Rattle.lift.proofs.atom.Goals as goal
 
 pub returns-in-Bool : goal.returns-in-Bool

@@ -1,5 +1,4 @@
 use Rattle.lift.specs.Answers.{crowned}
-use Rattle.std.proofs.Common.{rules}
 use Rattle.lift.proofs.crown.Goals as goal
 
 pub returns-in-At : goal.returns-in-At

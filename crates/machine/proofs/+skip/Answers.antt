@@ -1,4 +1,4 @@
-use Rattle.std.proofs.Common.{refl, sym, ap, arith, rules, ℕ, ◌<◌, ◌∙◌}
+use Rattle.std.proofs.Common.{refl, sym, ap, arith, ◌∙◌}
 use Rattle.types.specs.Code.{head_is}
 use Rattle.forms.specs.Forms.{step, yes_eq, no_eq}
 use Rattle.machine.specs.Types.{skip_by}

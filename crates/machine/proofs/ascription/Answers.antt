@@ -1,4 +1,4 @@
-use Rattle.std.proofs.Common.{refl, sym, arith, rules, ◌∙◌}
+use Rattle.std.proofs.Common.{refl, sym, arith, ◌∙◌}
 use Rattle.forms.specs.Forms.{step, yes_eq, no_eq}
 use Rattle.machine.specs.Types.{ascription_by, ascription_of}
 use Rattle.machine.proofs.ascription.Goals as goal

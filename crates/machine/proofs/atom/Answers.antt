@@ -1,5 +1,4 @@
 use Rattle.machine.proofs.Laws.{atom-bool, atom-int, atom-given}
-use Rattle.std.proofs.Common.{rules}
 use Rattle.machine.proofs.atom.Goals as goal
 
 pub returns-in-Bool : goal.returns-in-Bool

@@ -1,4 +1,4 @@
-use Rattle.std.proofs.Common.{◌≡◌, ◌∙◌, refl, sym, ap, arith, lit<, rules, lt_trans}
+use Rattle.std.proofs.Common.{refl, arith, lit<, lt_trans}
 use Rattle.machine.proofs.Laws.{product}
 use Rattle.machine.proofs.cell.Goals as goal
 

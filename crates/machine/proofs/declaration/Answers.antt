@@ -1,4 +1,4 @@
-use Rattle.std.proofs.Common.{refl, sym, arith, rules, ◌∙◌}
+use Rattle.std.proofs.Common.{refl, sym, arith, ◌∙◌}
 use Rattle.forms.specs.Forms.{step}
 use Rattle.machine.specs.Types.{declaration_by, declaration_of}
 use Rattle.machine.proofs.declaration.Goals as goal

@@ -1,8 +1,5 @@
-use Rattle.std.proofs.Common.{◌≡◌, ◌∙◌, length, refl, sym, ap, arith, rules}
-use Rattle.machine.specs.Machine.{mach}
-use Rattle.machine.specs.Types.{declaration_of, times_of}
+use Rattle.std.proofs.Common.{◌∙◌, refl, sym, arith}
 use Rattle.machine.proofs.Laws.{by-times, times_none}
-use Rattle.forms.specs.Forms.{test, then, step, yes_if, no_if, yes_eq, no_eq, yes_lt, no_lt, yes_le, no_le}
 use Rattle.machine.proofs.declare.Goals as goal
 
 pub loop-i-init : goal.loop-i-init

@@ -1,8 +1,6 @@
-use Rattle.std.proofs.Common.{◌≡◌, ◌∙◌, length, refl, sym, ap, arith, rules}
+use Rattle.std.proofs.Common.{◌≡◌, length}
 use Rattle.machine.specs.Machine.{mach}
 use Rattle.machine.specs.Types.{declaration_of, times_of}
-use Rattle.machine.proofs.Laws.{by-times, times_none}
-use Rattle.forms.specs.Forms.{test, then, step, yes_if, no_if, yes_eq, no_eq, yes_lt, no_lt, yes_le, no_le}
 use Rattle.machine.proofs.declare.Given as goal
 
 abbrev pub invariant-loop-i : goal.invariant-loop-i

@@ -1,4 +1,4 @@
-use Rattle.std.proofs.Common.{arith, rules}
+use Rattle.std.proofs.Common.{arith}
 use Rattle.forms.specs.Forms.{step}
 use Rattle.machine.specs.Types.{declaration_by}
 use Rattle.machine.proofs.declared.Goals as goal

@@ -1,5 +1,5 @@
-use Rattle.std.proofs.Common.{refl, sym, ap, arith, rules, ◌∙◌}
-use Rattle.forms.specs.Forms.{test, then, step, yes_if, no_if, yes_eq, no_eq, yes_lt, no_lt, yes_le, no_le}
+use Rattle.std.proofs.Common.{refl}
+use Rattle.forms.specs.Forms.{step, yes_eq, no_eq}
 use Rattle.machine.specs.Machine.{leave_of}
 use Rattle.machine.proofs.leave.Goals as goal
 

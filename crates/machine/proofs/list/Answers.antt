@@ -1,5 +1,4 @@
-use Rattle.std.proofs.Common.{refl, sym, ap, arith, rules, ◌∙◌}
-use Rattle.forms.specs.Forms.{test, then, step, yes_if, no_if, yes_eq, no_eq, yes_lt, no_lt, yes_le, no_le}
+use Rattle.forms.specs.Forms.{step}
 use Rattle.machine.specs.Machine.{list_of}
 use Rattle.machine.proofs.list.Goals as goal
 

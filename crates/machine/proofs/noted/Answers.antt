@@ -1,4 +1,4 @@
-use Rattle.std.proofs.Common.{refl, arith, rules}
+use Rattle.std.proofs.Common.{refl, arith}
 use Rattle.machine.proofs.Laws.{noted-bool, noted-int, noted-given}
 use Rattle.machine.proofs.noted.Goals as goal
 

@@ -1,6 +1,5 @@
 use Rattle.forms.specs.Forms.{yes_le, no_le}
 use Rattle.machine.specs.Machine.{passed_of}
-use Rattle.std.proofs.Common.{rules}
 use Rattle.machine.proofs.passed.Goals as goal
 
 pub returns-then-e-le4294967295 : goal.returns-then-e-le4294967295

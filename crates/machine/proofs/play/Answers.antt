@@ -1,7 +1,6 @@
-use Rattle.std.proofs.Common.{ℕ, ◌-◌, arith, sym, rules, ◌≡◌, ◌∙◌, refl, length}
+use Rattle.std.proofs.Common.{arith, sym, ◌∙◌, refl}
 use Rattle.forms.specs.Forms.{step}
-use Rattle.machine.specs.Machine.{mach}
-use Rattle.machine.specs.Scripts.{items_of, play_of}
+use Rattle.machine.specs.Scripts.{play_of}
 use Rattle.machine.proofs.Laws.{items_more, items-none}
 use Rattle.machine.proofs.play.Goals as goal
 

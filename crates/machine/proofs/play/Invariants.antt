@@ -1,8 +1,6 @@
-use Rattle.std.proofs.Common.{ℕ, ◌-◌, arith, sym, rules, ◌≡◌, ◌∙◌, refl, length}
-use Rattle.forms.specs.Forms.{step}
+use Rattle.std.proofs.Common.{◌-◌, ◌≡◌, length}
 use Rattle.machine.specs.Machine.{mach}
-use Rattle.machine.specs.Scripts.{items_of, play_of}
-use Rattle.machine.proofs.Laws.{items_more, items-none}
+use Rattle.machine.specs.Scripts.{items_of}
 use Rattle.machine.proofs.play.Given as goal
 
 abbrev pub invariant-loop-i : goal.invariant-loop-i

@@ -1,8 +1,6 @@
-use Rattle.std.proofs.Common.{◌≡◌, ◌∙◌, refl, ℕ, sym, ap, arith, length-take-le, rules}
-use Rattle.forms.specs.Forms.{test, then, step, yes_if, no_if, yes_eq, no_eq, yes_lt, no_lt, yes_le, no_le}
+use Rattle.std.proofs.Common.{refl, ℕ, sym, ap, length-take-le}
 use Rattle.unification.specs.Arena.{decode}
 use Rattle.unification.specs.Make.{builds_no_other}
-use Rattle.makers.specs.Answers.{made}
 use Rattle.machine.proofs.Laws.{lent, lent_push}
 use Rattle.machine.proofs.push.Goals as goal
 

@@ -1,8 +1,4 @@
-use Rattle.std.proofs.Common.{◌≡◌, ◌∙◌, refl, set, sym, ap, arith, rules, ℕ, ◌+◌, get_or}
-use Rattle.forms.specs.Forms.{test, then, step, yes_if, no_if, yes_eq, no_eq, yes_lt, no_lt, yes_le, no_le}
-use Rattle.machine.specs.Machine.{put_of}
-use Rattle.std.proofs.Math.ListN.{get_or-eq_default}
-use Rattle.std.proofs.Math.Seq.{get_or-drop}
+use Rattle.std.proofs.Common.{◌∙◌, set, ap, arith, ℕ, ◌+◌}
 use Rattle.machine.specs.Machine.{mach, cell}
 use Rattle.machine.proofs.Laws.{put-inside, put-outside}
 use Rattle.machine.proofs.put.Goals as goal

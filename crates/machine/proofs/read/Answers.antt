@@ -1,9 +1,7 @@
-use Rattle.std.proofs.Common.{◌≡◌, ◌∙◌, refl, set, sym, ap, arith, rules, ℕ, ◌+◌, get_or}
-use Rattle.forms.specs.Forms.{test, then, step, yes_if, no_if, yes_eq, no_eq, yes_lt, no_lt, yes_le, no_le}
+use Rattle.std.proofs.Common.{◌∙◌, sym, ap, arith, ℕ, ◌+◌, get_or}
 use Rattle.std.proofs.Math.ListN.{get_or-eq_default}
 use Rattle.std.proofs.Math.Seq.{get_or-drop}
-use Rattle.machine.specs.Machine.{mach, cell}
-use Rattle.machine.proofs.Laws.{put-inside, put-outside}
+use Rattle.machine.specs.Machine.{cell}
 use Rattle.machine.proofs.read.Goals as goal
 
 pub returns-then-i-work : goal.returns-then-i-work

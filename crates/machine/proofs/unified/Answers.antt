@@ -1,5 +1,4 @@
-use Rattle.std.proofs.Common.{◌≡◌, ◌∙◌, refl, sym, ap, arith, length-take-le, rules}
-use Rattle.forms.specs.Forms.{test, then, step, yes_if, no_if, yes_eq, no_eq, yes_lt, no_lt, yes_le, no_le}
+use Rattle.std.proofs.Common.{sym, length-take-le}
 use Rattle.machine.proofs.Laws.{lent, lent-unify}
 use Rattle.machine.proofs.unified.Goals as goal
 

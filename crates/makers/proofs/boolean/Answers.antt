@@ -1,5 +1,4 @@
 use Rattle.unification.specs.Make.{build}
-use Rattle.std.proofs.Common.{rules}
 use Rattle.makers.proofs.boolean.Goals as goal
 
 pub returns : goal.returns

@@ -1,7 +1,6 @@
-use Rattle.std.proofs.Common.{sym, lt-ltb, le-ltb, rules, ◌∙◌}
+use Rattle.std.proofs.Common.{sym, le-ltb, ◌∙◌}
 use Rattle.unification.specs.Arena.{choose}
 use Rattle.unification.specs.Make.{build, build-power}
-use Rattle.makers.specs.Answers.{made}
 use Rattle.makers.proofs.pow.Goals as goal
 
 pub returns-then-base-count : goal.returns-then-base-count

@@ -1,7 +1,6 @@
-use Rattle.std.proofs.Common.{sym, lt-ltb, le-ltb, rules, ◌∙◌}
+use Rattle.std.proofs.Common.{sym, lt-ltb, le-ltb, ◌∙◌}
 use Rattle.unification.specs.Arena.{choose}
 use Rattle.unification.specs.Make.{build, build-pair}
-use Rattle.makers.specs.Answers.{made}
 use Rattle.makers.proofs.prod.Goals as goal
 
 pub returns-then-right-count : goal.returns-then-right-count

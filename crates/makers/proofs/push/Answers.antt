@@ -1,7 +1,6 @@
-use Rattle.std.proofs.Common.{sym, length-set, arith, rules}
+use Rattle.std.proofs.Common.{sym, length-set, arith}
 use Rattle.unification.specs.Good.{push_at}
 use Rattle.unification.specs.Make.{make-done, make_full, make-past, make-last}
-use Rattle.makers.specs.Answers.{made}
 use Rattle.makers.proofs.push.Goals as goal
 
 pub returns-then-words-at : goal.returns-then-words-at

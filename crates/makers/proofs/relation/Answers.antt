@@ -1,4 +1,4 @@
-use Rattle.std.proofs.Common.{sym, ap, arith, rules, ◌∙◌}
+use Rattle.std.proofs.Common.{sym, ap, arith, ◌∙◌}
 use Rattle.unification.specs.Make.{relate-done, relate-stop, build-small}
 use Rattle.makers.specs.Answers.{made}
 use Rattle.makers.proofs.relation.Goals as goal

@@ -1,5 +1,5 @@
-use Rattle.std.proofs.Common.{rules, arith, sym, ap, length-set, ◌-◌, ◌≤◌, ◌≡◌, ◌∙◌, refl, length}
-use Rattle.memory.specs.Memory.{zeroed, zero_more, zero-end, zero-cleared}
+use Rattle.std.proofs.Common.{◌-◌, ◌≡◌, length}
+use Rattle.memory.specs.Memory.{zeroed}
 use Rattle.memory.proofs.clear_bytes.Given as goal
 
 abbrev pub invariant-loop-i : goal.invariant-loop-i

@@ -1,5 +1,5 @@
-use Rattle.std.proofs.Common.{rules, arith, sym, ap, length-set, ◌-◌, ◌≤◌, ◌≡◌, ◌∙◌, refl, length}
-use Rattle.memory.specs.Memory.{zeroed, zero_more, zero-end, zero-cleared}
+use Rattle.std.proofs.Common.{arith, sym, length-set, ◌∙◌, refl}
+use Rattle.memory.specs.Memory.{zero_more, zero-end, zero-cleared}
 use Rattle.memory.proofs.clear_words.Goals as goal
 
 pub loop-i-init : goal.loop-i-init

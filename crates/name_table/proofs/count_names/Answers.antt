@@ -1,6 +1,6 @@
 -- `count_names`: i names lie before the place reached.
-use Rattle.std.proofs.Common.{rules, ◌-◌}
-use Rattle.name_table.specs.Steps.{Counted, counted_start, counted-over, counted-out, counted-on}
+use Rattle.std.proofs.Common.{rules}
+use Rattle.name_table.specs.Steps.{counted_start, counted-over, counted-out, counted-on}
 use Rattle.name_table.proofs.count_names.Goals as goal
 
 pub loop-i-init : goal.loop-i-init

@@ -1,5 +1,5 @@
-use Rattle.std.proofs.Common.{rules, ◌-◌}
-use Rattle.name_table.specs.Steps.{Counted, counted_start, counted-over, counted-out, counted-on}
+use Rattle.std.proofs.Common.{◌-◌}
+use Rattle.name_table.specs.Steps.{Counted}
 use Rattle.name_table.proofs.count_names.Given as goal
 
 abbrev pub invariant-loop-i : goal.invariant-loop-i

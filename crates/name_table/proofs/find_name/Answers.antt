@@ -1,7 +1,6 @@
 -- `find_name`: no name before the i-th is the word, so its number is i more than in the names that are left.
-use Rattle.std.proofs.Common.{rules, arith, sym, ◌≤◌, ◌-◌, ◌≡◌, ◌∙◌, refl, length, drop}
+use Rattle.std.proofs.Common.{rules, arith}
 use Rattle.name_table.specs.Steps.{find-start, find-over, find-out, find_hit, find_miss}
-use Rattle.name_table.specs.Table.{find, names, names_of, shift}
 use Rattle.name_table.proofs.find_name.Goals as goal
 
 pub loop-i-init : goal.loop-i-init

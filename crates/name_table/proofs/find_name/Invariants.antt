@@ -1,5 +1,4 @@
-use Rattle.std.proofs.Common.{rules, arith, sym, ◌≤◌, ◌-◌, ◌≡◌, ◌∙◌, refl, length, drop}
-use Rattle.name_table.specs.Steps.{find-start, find-over, find-out, find_hit, find_miss}
+use Rattle.std.proofs.Common.{◌-◌, ◌≡◌, drop}
 use Rattle.name_table.specs.Table.{find, names, names_of, shift}
 use Rattle.name_table.proofs.find_name.Given as goal
 

@@ -1,5 +1,5 @@
 -- `is_letter` is the test of the definition, range by range.
-use Rattle.std.proofs.Common.{rules, arith, sym}
+use Rattle.std.proofs.Common.{rules, sym}
 use Rattle.name_table.specs.Steps.{letter-low, letter_upper, letter_middle, letter_high}
 use Rattle.name_table.proofs.is_letter.Goals as goal
 

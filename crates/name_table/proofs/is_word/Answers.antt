@@ -1,7 +1,6 @@
 -- `is_word`: up to i every byte is a word's, so the word is good exactly if the rest is.
-use Rattle.std.proofs.Common.{rules, arith, sym, ap, ◌≤◌, ◌-◌, ◌≡◌, ◌∙◌, length, drop, not}
+use Rattle.std.proofs.Common.{rules, sym, ap, not}
 use Rattle.name_table.specs.Steps.{is-word-none, is-word-bad, is-word-start, is-word-stop, is-word-on, is-word-end}
-use Rattle.name_table.specs.Words.{is_word, all_word}
 use Rattle.name_table.proofs.is_word.Goals as goal
 
 pub returns-then-w-eq0 : goal.returns-then-w-eq0

@@ -1,5 +1,4 @@
-use Rattle.std.proofs.Common.{rules, arith, sym, ◌≤◌, ◌-◌, ◌≡◌, ◌∙◌, length, drop}
-use Rattle.name_table.specs.Steps.{is-word-none, is-word-bad, is-word-start, is-word-stop, is-word-on, is-word-end}
+use Rattle.std.proofs.Common.{◌-◌, ◌≡◌, length, drop}
 use Rattle.name_table.specs.Words.{is_word, all_word}
 use Rattle.name_table.proofs.is_word.Given as goal
 

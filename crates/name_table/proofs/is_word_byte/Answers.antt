@@ -1,5 +1,5 @@
 -- `is_word_byte` is the test of the definition, range by range.
-use Rattle.std.proofs.Common.{arith, sym, rules, ◌∙◌}
+use Rattle.std.proofs.Common.{sym, rules, ◌∙◌}
 use Rattle.name_table.specs.Steps.{word-letter, word_low, word_digit, word_high}
 use Rattle.name_table.proofs.is_word_byte.Goals as goal
 

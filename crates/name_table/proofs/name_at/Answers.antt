@@ -1,6 +1,6 @@
 -- `name_at`: name n of the table is name n - i of the names that are left.
-use Rattle.std.proofs.Common.{rules, arith, ◌-◌}
-use Rattle.name_table.specs.Steps.{Left, left-start, left_over, left_out, left_hit, left_miss}
+use Rattle.std.proofs.Common.{rules}
+use Rattle.name_table.specs.Steps.{left-start, left_over, left_out, left_hit, left_miss}
 use Rattle.name_table.proofs.name_at.Goals as goal
 
 pub loop-i-init : goal.loop-i-init

@@ -1,5 +1,5 @@
-use Rattle.std.proofs.Common.{rules, arith, ◌-◌}
-use Rattle.name_table.specs.Steps.{Left, left-start, left_over, left_out, left_hit, left_miss}
+use Rattle.std.proofs.Common.{◌-◌}
+use Rattle.name_table.specs.Steps.{Left}
 use Rattle.name_table.proofs.name_at.Given as goal
 
 abbrev pub invariant-loop-i : goal.invariant-loop-i

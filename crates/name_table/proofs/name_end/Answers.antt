@@ -1,5 +1,5 @@
 -- `name_end` ends a record where its kind says, and a cut one at the table's end.
-use Rattle.std.proofs.Common.{arith, rules}
+use Rattle.std.proofs.Common.{rules}
 use Rattle.name_table.specs.Steps.{name-end-none, name-end-inside, name-end_cut}
 use Rattle.name_table.proofs.name_end.Goals as goal
 

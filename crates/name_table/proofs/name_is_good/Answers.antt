@@ -1,5 +1,5 @@
 -- `name_is_good` tests the three rules in their order.
-use Rattle.std.proofs.Common.{arith, rules, ap, not}
+use Rattle.std.proofs.Common.{ap, not}
 use Rattle.name_table.specs.Steps.{name_no_word, name_reserved, name-found, name-lost}
 use Rattle.name_table.proofs.name_is_good.Goals as goal
 

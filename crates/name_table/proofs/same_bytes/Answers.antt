@@ -1,7 +1,6 @@
 -- `same_bytes`: up to i the bytes agree, so the two are the same exactly if their rests are.
-use Rattle.std.proofs.Common.{rules, arith, sym, ◌≤◌, ◌-◌, ◌≡◌, ◌∙◌, refl, length, drop}
+use Rattle.std.proofs.Common.{rules, refl}
 use Rattle.name_table.specs.Steps.{same-differ, same-on, same-short, same_end}
-use Rattle.name_table.specs.Words.{same}
 use Rattle.name_table.proofs.same_bytes.Goals as goal
 
 pub loop-i-init : goal.loop-i-init

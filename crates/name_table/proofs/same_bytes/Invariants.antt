@@ -1,5 +1,4 @@
-use Rattle.std.proofs.Common.{rules, arith, sym, ◌≤◌, ◌-◌, ◌≡◌, ◌∙◌, refl, length, drop}
-use Rattle.name_table.specs.Steps.{same-differ, same-on, same-short, same_end}
+use Rattle.std.proofs.Common.{◌≤◌, ◌-◌, ◌≡◌, length, drop}
 use Rattle.name_table.specs.Words.{same}
 use Rattle.name_table.proofs.same_bytes.Given as goal
 

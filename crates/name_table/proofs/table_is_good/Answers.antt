@@ -1,7 +1,6 @@
 -- `table_is_good`: the first i records are good, so the table is good exactly if the rest is.
-use Rattle.std.proofs.Common.{rules, arith, ap, ◌≤◌, ◌-◌, ◌≡◌, refl, length, drop, not}
+use Rattle.std.proofs.Common.{rules, ap, refl, not}
 use Rattle.name_table.specs.Steps.{good-long, good_start, good-many, good-low, good_high, good_cut, good-bad, good-go, good-end}
-use Rattle.name_table.specs.Table.{good_table, good_from, names}
 use Rattle.name_table.proofs.table_is_good.Goals as goal
 
 pub returns-then-table-gt-MAX_BYTES : goal.returns-then-table-gt-MAX_BYTES

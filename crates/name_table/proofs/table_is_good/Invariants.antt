@@ -1,5 +1,4 @@
-use Rattle.std.proofs.Common.{rules, arith, ◌≤◌, ◌-◌, ◌≡◌, refl, length, drop}
-use Rattle.name_table.specs.Steps.{good-long, good_start, good-many, good-low, good_high, good_cut, good-bad, good-go, good-end}
+use Rattle.std.proofs.Common.{◌≤◌, ◌-◌, ◌≡◌, length, drop}
 use Rattle.name_table.specs.Table.{good_table, good_from, names}
 use Rattle.name_table.proofs.table_is_good.Given as goal
 

@@ -1,5 +1,5 @@
-use Rattle.std.proofs.Common.{◌≡◌, ◌∙◌, refl, sym, ap, arith, rules}
-use Rattle.forms.specs.Forms.{test, then, step, yes_if, no_if, yes_eq, no_eq, yes_lt, no_lt, yes_le, no_le}
+use Rattle.std.proofs.Common.{refl, sym, ap, arith}
+use Rattle.forms.specs.Forms.{test, no_eq, yes_le, no_le}
 use Rattle.operators.specs.Operators.{check_binary_of}
 use Rattle.operators.proofs.check_binary.Goals as goal
 

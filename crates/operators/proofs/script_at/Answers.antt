@@ -1,4 +1,4 @@
-use Rattle.std.proofs.Common.{refl, rules}
+use Rattle.std.proofs.Common.{refl}
 use Rattle.forms.specs.Forms.{yes_lt, no_lt}
 use Rattle.operators.specs.Tables.{starts_t, gives_t}
 use Rattle.operators.specs.Operators.{script_at}

@@ -1,5 +1,4 @@
 use Rattle.runner.proofs.Laws.{closes}
-use Rattle.std.proofs.Common.{rules}
 use Rattle.runner.proofs.close.Goals as goal
 
 pub returns : goal.returns

@@ -1,6 +1,4 @@
-use Rattle.std.proofs.Common.{rules, arith, sym, ap, ℕ, ◌-◌, ◌≤◌, ◌+◌, ◌≡◌, ◌∙◌, refl, List, length}
-use Rattle.machine.specs.declared.State.{State}
-use Rattle.machine.specs.Machine.{Mach, mach}
+use Rattle.std.proofs.Common.{sym, ap, ◌∙◌, refl}
 use Rattle.runner.specs.Begin.{entered_from}
 use Rattle.runner.proofs.Laws.{entered_more, entered_end}
 use Rattle.runner.proofs.enter_types.Goals as goal

@@ -1,8 +1,7 @@
-use Rattle.std.proofs.Common.{rules, arith, sym, ap, ℕ, ◌-◌, ◌≤◌, ◌+◌, ◌≡◌, ◌∙◌, refl, List, length}
+use Rattle.std.proofs.Common.{ℕ, ◌-◌, ◌≡◌, List, length}
 use Rattle.machine.specs.declared.State.{State}
-use Rattle.machine.specs.Machine.{Mach, mach}
+use Rattle.machine.specs.Machine.{mach}
 use Rattle.runner.specs.Begin.{entered_from}
-use Rattle.runner.proofs.Laws.{entered_more, entered_end}
 use Rattle.runner.proofs.enter_types.Given as goal
 
 abbrev pub invariant-loop-x : goal.invariant-loop-x

@@ -1,5 +1,5 @@
 use Rattle.runner.proofs.Laws.{no_capacity, great_capacity, by-work}
-use Rattle.std.proofs.Common.{◌≡◌, ◌∙◌, refl, sym, ap, arith, rules, lt-ltb, le-ltb, le-leb, eq-eqb, ne_eqb}
+use Rattle.std.proofs.Common.{rules, lt-ltb, le-ltb, le-leb, eq-eqb, ne_eqb}
 use borrow.Author.Tests.{lt-leb}
 use Rattle.inference.specs.Infer.{sized}
 use Rattle.runner.proofs.fits.Goals as goal

@@ -1,5 +1,4 @@
 use Rattle.runner.proofs.Laws.{same-judged}
-use Rattle.std.proofs.Common.{◌≡◌, ◌∙◌, refl, sym, ap, rules}
 use Rattle.forms.specs.Forms.{yes_eq, no_eq, yes_if, no_if, step}
 use Rattle.runner.specs.Run.{judge_of}
 use Rattle.runner.proofs.judge.Goals as goal

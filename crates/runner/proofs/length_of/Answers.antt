@@ -1,6 +1,6 @@
 use Rattle.runner.specs.declared.Answer.{Answer}
 use Rattle.runner.proofs.Laws.{refusal-size}
-use Rattle.std.proofs.Common.{◌≡◌, ◌∙◌, refl, sym, ap, arith, rules}
+use Rattle.std.proofs.Common.{sym, ap}
 use Rattle.runner.specs.Answers.{told}
 use borrow.Enum.Refused.{opened}
 use Rattle.runner.proofs.length_of.Goals as goal

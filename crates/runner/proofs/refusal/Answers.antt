@@ -1,5 +1,4 @@
 use Rattle.runner.proofs.Laws.{blames_environment, blames_formula, blames_beyond}
-use Rattle.std.proofs.Common.{◌≡◌, ◌∙◌, refl, sym, ap, arith, rules}
 use Rattle.runner.proofs.refusal.Goals as goal
 
 pub returns-then-environment : goal.returns-then-environment

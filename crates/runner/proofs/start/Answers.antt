@@ -1,4 +1,4 @@
-use Rattle.std.proofs.Common.{◌≡◌, ◌∙◌, refl, sym, ap, arith}
+use Rattle.std.proofs.Common.{refl}
 use Rattle.runner.specs.Begin.{start_of}
 use Rattle.runner.proofs.start.Goals as goal
 

@@ -1,6 +1,5 @@
 use Rattle.runner.proofs.Laws.{same_typed, same-problems}
-use Rattle.std.proofs.Common.{◌≡◌, ◌∙◌, refl, sym, ap, arith, rules, lt-ltb, le-ltb, le-leb, eq-eqb, ne_eqb}
-use borrow.Author.Tests.{lt-leb}
+use Rattle.std.proofs.Common.{refl, arith}
 use Rattle.forms.specs.Forms.{yes_eq, no_eq, yes_if, no_if}
 use Rattle.runner.specs.Run.{verdict_of}
 use Rattle.runner.proofs.verdict.Goals as goal

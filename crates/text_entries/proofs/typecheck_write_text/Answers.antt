@@ -1,5 +1,5 @@
 -- `typecheck_write_text` tells the answer of `type_text::write` by its number, place and length.
-use Rattle.std.proofs.Common.{ap, rules, ◌∙◌}
+use Rattle.std.proofs.Common.{ap, ◌∙◌}
 use Rattle.type_text.specs.Answer.{number_of, place_of, length_of}
 use Rattle.text_entries.proofs.typecheck_write_text.Goals as goal
 

@@ -1,7 +1,6 @@
 -- `starts_with`: the first i bytes of the sign stand there, so the text goes on with the sign exactly if the rest does.
-use Rattle.std.proofs.Common.{rules, arith, ◌+◌, ◌-◌, ◌≡◌, length, drop}
+use Rattle.std.proofs.Common.{rules}
 use Rattle.type_grammar.specs.Steps.{starts_begin, starts-end, starts-short, starts-differ, starts-on}
-use Rattle.type_grammar.specs.Token.{starts}
 use Rattle.type_grammar.proofs.starts_with.Goals as goal
 
 pub loop-i-init : goal.loop-i-init

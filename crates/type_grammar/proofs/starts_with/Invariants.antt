@@ -1,5 +1,4 @@
-use Rattle.std.proofs.Common.{rules, arith, ◌+◌, ◌-◌, ◌≡◌, length, drop}
-use Rattle.type_grammar.specs.Steps.{starts_begin, starts-end, starts-short, starts-differ, starts-on}
+use Rattle.std.proofs.Common.{◌+◌, ◌-◌, ◌≡◌, length, drop}
 use Rattle.type_grammar.specs.Token.{starts}
 use Rattle.type_grammar.proofs.starts_with.Given as goal
 

@@ -1,6 +1,6 @@
 -- `word_end`: every byte up to e is a word's.
-use Rattle.std.proofs.Common.{rules, arith, ◌-◌, length}
-use Rattle.type_grammar.specs.Steps.{WordSo, word_begin, word_over, word-stop, word_on}
+use Rattle.std.proofs.Common.{rules}
+use Rattle.type_grammar.specs.Steps.{word_begin, word_over, word-stop, word_on}
 use Rattle.type_grammar.proofs.word_end.Goals as goal
 
 pub loop-e-init : goal.loop-e-init

@@ -1,5 +1,5 @@
-use Rattle.std.proofs.Common.{rules, arith, ◌-◌, length}
-use Rattle.type_grammar.specs.Steps.{WordSo, word_begin, word_over, word-stop, word_on}
+use Rattle.std.proofs.Common.{◌-◌, length}
+use Rattle.type_grammar.specs.Steps.{WordSo}
 use Rattle.type_grammar.proofs.word_end.Given as goal
 
 abbrev pub invariant-loop-e : goal.invariant-loop-e

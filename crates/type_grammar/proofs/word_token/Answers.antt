@@ -1,5 +1,4 @@
 -- `word_token` asks for BOOL first, then for a name of the table.
-use Rattle.std.proofs.Common.{arith, rules}
 use Rattle.type_grammar.specs.Steps.{word-bool, word-found, word-lost}
 use Rattle.type_grammar.proofs.word_token.Goals as goal
 

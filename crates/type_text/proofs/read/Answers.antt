@@ -1,5 +1,5 @@
 -- `read` meets each refusal in its order, and writes only once everything is known to fit.
-use Rattle.std.proofs.Common.{arith, rules, ap, not}
+use Rattle.std.proofs.Common.{arith, ap, not}
 use Rattle.type_text.specs.Read.{read_table, read-stop, read-left-over, read-deep, read_no_room, read-ready, read_done}
 use Rattle.type_text.proofs.read.Goals as goal
 

@@ -1,5 +1,5 @@
 -- `refusal` follows its definition, case by case.
-use Rattle.std.proofs.Common.{sym, rules}
+use Rattle.std.proofs.Common.{sym}
 use Rattle.type_text.specs.Answer.{answer_of}
 use Rattle.type_text.proofs.refusal.Goals as goal
 

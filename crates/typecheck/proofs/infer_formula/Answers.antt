@@ -1,4 +1,4 @@
-use Rattle.std.proofs.Common.{◌≡◌, ◌∙◌, refl, sym, ap, arith, rules}
+use Rattle.std.proofs.Common.{◌∙◌, sym}
 use Rattle.typecheck.proofs.Calls.{formula-long, formula-bad, formula-good}
 use Rattle.typecheck.proofs.infer_formula.Goals as goal
 

@@ -1,4 +1,4 @@
-use Rattle.std.proofs.Common.{arith, rules}
+use Rattle.std.proofs.Common.{arith}
 use Rattle.typecheck.proofs.Laws.{runs}
 use Rattle.typecheck.proofs.run.Goals as goal
 

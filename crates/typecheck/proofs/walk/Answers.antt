@@ -1,4 +1,4 @@
-use Rattle.std.proofs.Common.{sym, length-take-le, arith, rules}
+use Rattle.std.proofs.Common.{sym, length-take-le}
 use Rattle.typecheck.proofs.Laws.{smaller_le, lent-reach, lent-count, walks-lent}
 use Rattle.typecheck.proofs.walk.Goals as goal
 

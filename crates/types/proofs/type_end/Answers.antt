@@ -1,5 +1,5 @@
 -- `type_end` is `end_at` on the bytes that places can number.
-use Rattle.std.proofs.Common.{arith, sym, ap, rules, ◌≡◌, ◌∙◌}
+use Rattle.std.proofs.Common.{sym, ap, rules, ◌∙◌}
 use Rattle.types.specs.Record.{reach}
 use Rattle.types.specs.Code.{end_of}
 use Rattle.types.specs.Steps.{in_reach, taken, taken-all}

@@ -1,4 +1,4 @@
-use Rattle.std.proofs.Common.{sym, ap, arith, rules, ℕ, ◌<◌, ◌∙◌}
+use Rattle.std.proofs.Common.{sym, ap, arith, ◌∙◌}
 use Rattle.unification.specs.Code.{take-inside, take_left}
 use Rattle.unification.proofs.CodeLaws.{unify-left, unify-spent, unify_broken, unify-same, unify-differ, unify-bind, unify-one, unify-right}
 use Rattle.unifier.specs.Answers.{taken, unified_as}

@@ -1,4 +1,4 @@
-use Rattle.std.proofs.Common.{sym, ap, rules, ◌∙◌}
+use Rattle.std.proofs.Common.{sym, ◌∙◌}
 use Rattle.unification.proofs.CodeLaws.{assign_circular, assign-spent, assign_broken, assign-bound}
 use Rattle.unifier.specs.Answers.{unified_as}
 use Rattle.unifier.proofs.Laws.{as_merged, told_yes, told_no, told-spent, told_broken}

@@ -1,9 +1,9 @@
 use Rattle.meter.specs.Meter.{done}
 use Rattle.unification.specs.Code.{task_right, task_plain}
-use Rattle.std.proofs.Common.{inl, inr, arith, sym, ap, eq-eqb, ne_eqb, ◌∙◌}
+use Rattle.std.proofs.Common.{inl, inr, sym, ap, eq-eqb, ne_eqb}
 use Rattle.unification.specs.Kinds.{no_seventh}
 use Rattle.unification.specs.Arena.{meet, same_atom, verdict_of}
-use Rattle.unification.specs.Kinds.{meet_right, meet-differ, meet-plain}
+use Rattle.unification.specs.Kinds.{meet-differ}
 use Rattle.unification.specs.Tasks.{task_of}
 use Rattle.unifier.specs.Answers.{node_of, taken}
 use Rattle.unifier.proofs.compare.Goals as goal

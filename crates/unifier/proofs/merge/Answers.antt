@@ -1,4 +1,4 @@
-use Rattle.std.proofs.Common.{sym, arith, length-set, rules, ◌∙◌}
+use Rattle.std.proofs.Common.{sym, arith, length-set, ◌∙◌}
 use Rattle.unification.proofs.Merge.{merge_plain, merge_below, merge_above, merge_last, merge_level}
 use Rattle.unifier.proofs.merge.Goals as goal
 

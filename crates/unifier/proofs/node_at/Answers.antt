@@ -1,4 +1,4 @@
-use Rattle.std.proofs.Common.{refl, sym, lt-ltb, le-ltb, ap, arith, rules, ◌∙◌}
+use Rattle.std.proofs.Common.{refl, sym, lt-ltb, le-ltb, arith, ◌∙◌}
 use Rattle.unification.specs.Kinds.{node-here, root-range, bad-below, bad_above}
 use Rattle.unification.specs.Arena.{node_at, inside}
 use Rattle.unification.specs.Kinds.{root-range, bad-below, bad_above}

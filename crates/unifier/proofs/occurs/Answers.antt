@@ -1,4 +1,4 @@
-use Rattle.std.proofs.Common.{◌∙◌, rules}
+use Rattle.std.proofs.Common.{◌∙◌}
 use Rattle.unifier.proofs.occurs.Goals as goal
 
 pub returns : goal.returns

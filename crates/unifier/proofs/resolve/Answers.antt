@@ -1,5 +1,4 @@
-use Rattle.std.proofs.Common.{◌≡◌, ◌∙◌, refl, sym, ap, subst, arith, rules}
-use Rattle.unification.specs.Tasks.{arrive}
+use Rattle.std.proofs.Common.{◌∙◌, refl, sym, ap, subst}
 use Rattle.unification.specs.Code.{arrive-here, arrive_broken, arrive-short, arrive-next}
 use Rattle.unifier.specs.Answers.{found_of, Settled, arrived}
 use Rattle.unifier.proofs.resolve.Goals as goal

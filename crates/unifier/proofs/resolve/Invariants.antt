@@ -1,7 +1,5 @@
-use Rattle.std.proofs.Common.{◌≡◌, ◌∙◌, refl, sym, ap, subst, arith, rules}
+use Rattle.std.proofs.Common.{◌≡◌}
 use Rattle.unification.specs.Tasks.{arrive}
-use Rattle.unification.specs.Code.{arrive-here, arrive_broken, arrive-short, arrive-next}
-use Rattle.unifier.specs.Answers.{found_of, Settled, arrived}
 use Rattle.unifier.proofs.resolve.Given as goal
 
 abbrev pub invariant-loop-node : goal.invariant-loop-node

@@ -1,4 +1,4 @@
-use Rattle.std.proofs.Common.{sym, ap, rules, ◌∙◌}
+use Rattle.std.proofs.Common.{sym, ap, ◌∙◌}
 use Rattle.unification.specs.Tasks.{arrive-stands}
 use Rattle.unification.specs.Code.{take_none, take-left-spent, take-left_broken, take-right-spent, take-right_broken, take_same, take_task}
 use Rattle.unifier.specs.Answers.{arrived, taken}

@@ -1,5 +1,5 @@
 use Rattle.std.proofs.Common.{ne_eqb}
-use Rattle.unifier.specs.Answers.{told, told_as}
+use Rattle.unifier.specs.Answers.{told_as}
 use Rattle.unifier.proofs.tell.Goals as goal
 
 pub returns-in-0 : goal.returns-in-0

@@ -1,5 +1,4 @@
-use Rattle.std.proofs.Common.{sym, rules, ◌∙◌}
-use Rattle.unifier.specs.Answers.{settled}
+use Rattle.std.proofs.Common.{sym, ◌∙◌}
 use Rattle.unifier.proofs.Laws.{unified_zero, unified_mismatch, unified_circular, unified_spent, unified_broken}
 use Rattle.unifier.proofs.unify.Goals as goal
 

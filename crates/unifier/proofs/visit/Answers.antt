@@ -1,4 +1,4 @@
-use Rattle.std.proofs.Common.{sym, ap, rules, ◌∙◌}
+use Rattle.std.proofs.Common.{sym, ap, ◌∙◌}
 use Rattle.unification.specs.Code.{reach-short, reach-done, reach-spent, reach_broken}
 use Rattle.unifier.specs.Answers.{arrived}
 use Rattle.unifier.proofs.visit.Goals as goal

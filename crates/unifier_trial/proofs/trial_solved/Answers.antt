@@ -1,4 +1,4 @@
-use Rattle.std.proofs.Common.{sym, ap, rules, ◌∙◌}
+use Rattle.std.proofs.Common.{sym, ap, ◌∙◌}
 use Rattle.unifier.specs.Answers.{told}
 use Rattle.unifier_trial.specs.Numbers.{told_as}
 use Rattle.unifier_trial.proofs.trial_solved.Goals as goal

@@ -1,4 +1,4 @@
-use Rattle.std.proofs.Common.{sym, ap, rules, ◌∙◌}
+use Rattle.std.proofs.Common.{sym, ap, ◌∙◌}
 use Rattle.unifier.specs.Answers.{settled}
 use Rattle.unifier_trial.specs.Numbers.{unified_as}
 use Rattle.unifier_trial.proofs.trial_unify.Goals as goal

@@ -1,9 +1,7 @@
-use Rattle.std.proofs.Common.{◌≡◌, ◌∙◌, refl, length, sym, arith, rules, ℕ, ◌+◌, ◌*◌, ◌<◌}
-use Rattle.forms.specs.Forms.{step, yes_eq, no_eq}
+use Rattle.std.proofs.Common.{◌≡◌, length, ◌+◌, ◌*◌}
 use Rattle.machine.specs.Machine.{mach}
 use Rattle.machine.specs.Types.{times_of}
-use Rattle.walker.specs.Walk.{paid_by, owned_by, entered_by, typed_by, ascribed_by, body_by, pred_body_by, one_by, two_by, all_by, child_by, children_by, quant_by, pred_quant_by, expr_of, pred_of}
-use Rattle.walker.proofs.Laws.{by-expr, by-owned, by-explicit, by_pred, expr-wrong, expr-explicit, expr-owned, pred_wrong, pred_is, by_body, by_pred_body, times_none, by-times, children_end, children_more}
+use Rattle.walker.specs.Walk.{children_by, expr_of, pred_of}
 use Rattle.walker.proofs.+walking.Given as goal
 
 abbrev pub decreases-all : goal.decreases-all

@@ -1,4 +1,4 @@
-use Rattle.std.proofs.Common.{arith, sym, rules, ◌≡◌, ◌∙◌, refl}
+use Rattle.std.proofs.Common.{arith}
 use Rattle.forms.specs.Forms.{step}
 use Rattle.walker.specs.Root.{becomes_such_of}
 use Rattle.walker.proofs.becomes_such.Goals as goal

@@ -1,4 +1,4 @@
-use Rattle.std.proofs.Common.{refl, sym, rules, ◌∙◌}
+use Rattle.std.proofs.Common.{refl, sym, ◌∙◌}
 use Rattle.forms.specs.Forms.{step}
 use Rattle.walker.specs.Root.{formula_of, root_by}
 use Rattle.walker.proofs.formula.Goals as goal

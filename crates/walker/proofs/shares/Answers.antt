@@ -1,7 +1,6 @@
-use Rattle.std.proofs.Common.{ℕ, ◌-◌, arith, sym, rules, ◌≡◌, ◌∙◌, refl, length}
+use Rattle.std.proofs.Common.{arith, sym, ◌∙◌, refl}
 use Rattle.forms.specs.Forms.{step}
-use Rattle.machine.specs.Machine.{mach}
-use Rattle.walker.specs.Root.{share_by, shares_from, shares_of}
+use Rattle.walker.specs.Root.{share_by, shares_of}
 use Rattle.walker.proofs.Laws.{shares-more, shares-none}
 use Rattle.walker.proofs.shares.Goals as goal
 

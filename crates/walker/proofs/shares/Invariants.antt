@@ -1,8 +1,6 @@
-use Rattle.std.proofs.Common.{ℕ, ◌-◌, arith, sym, rules, ◌≡◌, ◌∙◌, refl, length}
-use Rattle.forms.specs.Forms.{step}
+use Rattle.std.proofs.Common.{◌-◌, ◌≡◌, length}
 use Rattle.machine.specs.Machine.{mach}
-use Rattle.walker.specs.Root.{share_by, shares_from, shares_of}
-use Rattle.walker.proofs.Laws.{shares-more, shares-none}
+use Rattle.walker.specs.Root.{shares_from}
 use Rattle.walker.proofs.shares.Given as goal
 
 abbrev pub invariant-loop-i : goal.invariant-loop-i

@@ -1,4 +1,4 @@
-use Rattle.std.proofs.Common.{arith, sym, rules, ◌≡◌, ◌∙◌, refl}
+use Rattle.std.proofs.Common.{arith}
 use Rattle.forms.specs.Forms.{step}
 use Rattle.walker.specs.Root.{such_that_of}
 use Rattle.walker.proofs.such_that.Goals as goal

@@ -1,10 +1,7 @@
-use Rattle.std.proofs.Common.{ℕ, ◌+◌, ◌-◌, arith, sym, rules, ◌≡◌, ◌∙◌, refl, length}
-use Rattle.forms.specs.Forms.{step}
+use Rattle.std.proofs.Common.{◌≡◌, length}
 use Rattle.machine.specs.Machine.{mach}
 use Rattle.machine.specs.Types.{times_of}
 use Rattle.walker.specs.Walk.{expr_of}
-use Rattle.walker.specs.Root.{pair_by, product_by, share_by, shares_from}
-use Rattle.walker.proofs.Laws.{by-times, times_none, shares-more, shares-none}
 use Rattle.walker.proofs.targets.Given as goal
 
 abbrev pub invariant-loop-i : goal.invariant-loop-i

@@ -1,4 +1,4 @@
-use Rattle.std.proofs.Common.{sym, ap, arith, rules, length-set, ℕ, ◌<◌, ◌∙◌}
+use Rattle.std.proofs.Common.{sym, ap, arith, length-set, ◌∙◌}
 use Rattle.unification.specs.Code.{reach-left}
 use Rattle.unification.specs.Put.{put-none, put-spent, put_broken, put-bool, put-int, put-given, put-given_full, put-power, put_right, put-left-spent, put-left-halt, put_other, put-left}
 use Rattle.unifier.specs.Answers.{arrived, node_of}

@@ -1,5 +1,5 @@
 -- `copy`: the first i bytes stand in the page, and the rest of it is as it was.
-use Rattle.std.proofs.Common.{rules, arith, ap, length-set, ◌++◌, ◌≤◌, ◌-◌, ◌+◌, ◌≡◌, ◌∙◌, refl, length, take, drop}
+use Rattle.std.proofs.Common.{rules, arith, length-set, refl}
 use Rattle.type_text.specs.Page.{copy_start, copy_next, copy_end}
 use Rattle.type_text.proofs.page.copy.Goals as goal
 

@@ -1,5 +1,4 @@
-use Rattle.std.proofs.Common.{rules, arith, ap, length-set, ◌++◌, ◌≤◌, ◌-◌, ◌+◌, ◌≡◌, ◌∙◌, refl, length, take, drop}
-use Rattle.type_text.specs.Page.{copy_start, copy_next, copy_end}
+use Rattle.std.proofs.Common.{◌++◌, ◌≤◌, ◌-◌, ◌+◌, ◌≡◌, length, take, drop}
 use Rattle.type_text.proofs.page.copy.Given as goal
 
 abbrev pub invariant-loop-i : goal.invariant-loop-i

@@ -1,5 +1,5 @@
 -- `spend` follows its definition, case by case.
-use Rattle.std.proofs.Common.{arith, rules}
+use Rattle.std.proofs.Common.{rules}
 use Rattle.type_text.specs.Page.{spend_over, spend_left, spend_past}
 use Rattle.type_text.proofs.page.spend.Goals as goal
 

@@ -1,9 +1,8 @@
 -- The second pass lays the record of the type that the parse found. Its loop keeps: what is still to come makes the whole type of the one whose record stands in the page.
 use Rattle.type_text.proofs.Laws.{operand_else, times-over}
-use Rattle.std.proofs.Common.{rules, arith, sym, ◌*◌, ◌+◌, ◌<◌, ◌≤◌, ℕ, ◌≡◌, ◌∙◌, refl, List, length}
+use Rattle.std.proofs.Common.{rules, arith, refl}
 use Rattle.name_table.specs.Table.{names}
-use Rattle.type_grammar.specs.Parse.{product_of}
-use Rattle.type_text.specs.Lay.{LayReady, Going, lay-lent-ready, lay-lent-end, lay-deep, lay-none, lay-leaf-fits, leaf-small, lay-leaf-end, lay-power-fits, lay-power-ready, lay-power-sum, lay-power-end, lay_open_ready, lay_open_end, lay-first, going_start, going_done, going_else, going-room, going-ready, going-sum, going_on}
+use Rattle.type_text.specs.Lay.{lay-lent-ready, lay-lent-end, lay-deep, lay-none, lay-leaf-fits, leaf-small, lay-leaf-end, lay-power-fits, lay-power-ready, lay-power-sum, lay-power-end, lay_open_ready, lay_open_end, lay-first, going_start, going_done, going_else, going-room, going-ready, going-sum, going_on}
 use borrow.Enum.Refused.{opened}
 use Rattle.type_text.proofs.reader.+laying.Goals as goal
 

@@ -1,8 +1,7 @@
-use Rattle.type_text.proofs.Laws.{operand_else, times-over}
-use Rattle.std.proofs.Common.{rules, arith, sym, ◌*◌, ◌+◌, ◌<◌, ◌≤◌, ℕ, ◌≡◌, ◌∙◌, refl, List, length}
+use Rattle.std.proofs.Common.{◌*◌, ◌+◌, ℕ, ◌≡◌, List, length}
 use Rattle.name_table.specs.Table.{names}
 use Rattle.type_grammar.specs.Parse.{product_of}
-use Rattle.type_text.specs.Lay.{LayReady, Going, lay-lent-ready, lay-lent-end, lay-deep, lay-none, lay-leaf-fits, leaf-small, lay-leaf-end, lay-power-fits, lay-power-ready, lay-power-sum, lay-power-end, lay_open_ready, lay_open_end, lay-first, going_start, going_done, going_else, going-room, going-ready, going-sum, going_on}
+use Rattle.type_text.specs.Lay.{LayReady, Going}
 use Rattle.type_text.proofs.reader.+laying.Given as goal
 
 abbrev pub decreases-lay_operand : goal.decreases-lay_operand

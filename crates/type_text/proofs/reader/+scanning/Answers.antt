@@ -1,8 +1,8 @@
 -- `scan_operand`, `scan_product` and `scan_times` follow the parse. The depth left falls from a product to the operands inside its brackets; × is a loop whose turns fall.
-use Rattle.std.proofs.Common.{rules, arith, sym, ◌*◌, ◌+◌, ◌<◌, ◌≤◌, ℕ, ◌≡◌, ◌∙◌, refl, length}
+use Rattle.std.proofs.Common.{arith, refl}
 use Rattle.type_text.proofs.Laws.{operand_else, times_else}
 use Rattle.name_table.specs.Table.{names}
-use Rattle.type_text.specs.Scan.{scan_times_of, operand-deep, operand-leaf, operand-power, operand_open, operand-none, product-stop, product-go, times_none, times-other, times-stop, times-go}
+use Rattle.type_text.specs.Scan.{operand-deep, operand-leaf, operand-power, operand_open, operand-none, product-stop, product-go, times_none, times-other, times-stop, times-go}
 use borrow.Enum.Refused.{opened}
 use Rattle.type_text.proofs.reader.+scanning.Goals as goal
 

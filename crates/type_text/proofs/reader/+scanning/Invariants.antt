@@ -1,7 +1,6 @@
-use Rattle.std.proofs.Common.{rules, arith, sym, ◌*◌, ◌+◌, ◌<◌, ◌≤◌, ℕ, ◌≡◌, ◌∙◌, refl, length}
-use Rattle.type_text.proofs.Laws.{operand_else, times_else}
+use Rattle.std.proofs.Common.{◌*◌, ◌+◌, ◌≡◌}
 use Rattle.name_table.specs.Table.{names}
-use Rattle.type_text.specs.Scan.{scan_times_of, operand-deep, operand-leaf, operand-power, operand_open, operand-none, product-stop, product-go, times_none, times-other, times-stop, times-go}
+use Rattle.type_text.specs.Scan.{scan_times_of}
 use Rattle.type_text.proofs.reader.+scanning.Given as goal
 
 abbrev pub decreases-scan_operand : goal.decreases-scan_operand

@@ -1,5 +1,5 @@
 -- `after_close` follows its definition, case by case.
-use Rattle.std.proofs.Common.{arith, rules, refl}
+use Rattle.std.proofs.Common.{refl}
 use Rattle.type_text.specs.Lay.{after_as, after_close}
 use Rattle.type_text.proofs.reader.after_close.Goals as goal
 

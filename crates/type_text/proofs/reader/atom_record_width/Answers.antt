@@ -1,5 +1,5 @@
 -- `atom_record_width` is the length of the atom's record.
-use Rattle.std.proofs.Common.{arith, sym, rules}
+use Rattle.std.proofs.Common.{sym}
 use Rattle.types.specs.Ty.{spell_atom}
 use Rattle.types.specs.Code.{atom_is}
 use Rattle.type_text.proofs.reader.atom_record_width.Goals as goal

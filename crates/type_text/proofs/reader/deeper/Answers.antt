@@ -1,5 +1,5 @@
 -- `deeper` follows its definition.
-use Rattle.std.proofs.Common.{arith, rules}
+use Rattle.std.proofs.Common.{rules}
 use Rattle.type_text.specs.Scan.{deeper-low, deeper_high}
 use Rattle.type_text.proofs.reader.deeper.Goals as goal
 

@@ -1,5 +1,5 @@
 -- `larger` follows its definition.
-use Rattle.std.proofs.Common.{rules, arith}
+use Rattle.std.proofs.Common.{rules}
 use Rattle.type_text.specs.Scan.{larger_right, larger_left}
 use Rattle.type_text.proofs.reader.larger.Goals as goal
 

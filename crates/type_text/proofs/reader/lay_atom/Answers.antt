@@ -1,5 +1,4 @@
 -- `lay_atom` puts the atom's record; a name's number has two bytes.
-use Rattle.std.proofs.Common.{arith, rules}
 use Rattle.type_text.specs.Lay.{spell-bool, spell-integer, spell-given}
 use Rattle.type_text.specs.Page.{fits_as, splice_as}
 use Rattle.type_text.proofs.reader.lay_atom.Goals as goal

@@ -1,5 +1,5 @@
 -- `lead`: the bytes from i on have moved one place, and the first i not yet.
-use Rattle.std.proofs.Common.{rules, arith, length-set, ◌++◌, ◌≤◌, ◌-◌, ◌+◌, ◌≡◌, refl, length, take, drop}
+use Rattle.std.proofs.Common.{rules, arith, length-set, refl}
 use Rattle.type_text.specs.Lay.{lead-start, lead-next, lead-end}
 use Rattle.type_text.proofs.reader.lead.Goals as goal
 

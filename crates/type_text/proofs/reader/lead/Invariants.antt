@@ -1,5 +1,4 @@
-use Rattle.std.proofs.Common.{rules, arith, length-set, ◌++◌, ◌≤◌, ◌-◌, ◌+◌, ◌≡◌, refl, length, take, drop}
-use Rattle.type_text.specs.Lay.{lead-start, lead-next, lead-end}
+use Rattle.std.proofs.Common.{◌++◌, ◌≤◌, ◌+◌, ◌≡◌, length, take, drop}
 use Rattle.type_text.proofs.reader.lead.Given as goal
 
 abbrev pub invariant-loop-i : goal.invariant-loop-i

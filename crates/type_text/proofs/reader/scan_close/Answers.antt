@@ -1,6 +1,6 @@
 -- `scan_close` passes a fault on, and asks for the closing bracket.
 use Rattle.type_text.proofs.Laws.{closed-other}
-use Rattle.std.proofs.Common.{arith, sym, rules, ◌∙◌}
+use Rattle.std.proofs.Common.{sym, ◌∙◌}
 use Rattle.type_text.specs.Scan.{closed-stop, closed_at, closed-power, closed_open}
 use borrow.Enum.Refused.{opened}
 use Rattle.type_text.proofs.reader.scan_close.Goals as goal

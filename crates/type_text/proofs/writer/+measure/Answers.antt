@@ -1,7 +1,6 @@
 -- `measure` follows `type_at` level by level and spends each operand's bytes; the levels left are the number that falls.
 use Rattle.types.specs.Steps.{type-wrong, type-deep-atom, type-deep-power, type-deep-product, type-atom, type-power, type-product}
 use Rattle.type_text.specs.Measure.{measured_as, measured_malformed, measured_deep, measured_atom, measured_power, measured_left-stop, measured_product}
-use Rattle.std.proofs.Common.{rules, arith, ℕ, ◌<◌}
 use Rattle.type_text.proofs.writer.+measure.Goals as goal
 
 pub returns-then-left-eq0 : goal.returns-then-left-eq0

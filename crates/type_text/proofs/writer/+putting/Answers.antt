@@ -1,5 +1,5 @@
 -- `put` and `put_at` write what `measure` counted. The number that falls is the levels left, a right operand coming before its own inside, and the lending before the part lent.
-use Rattle.std.proofs.Common.{◌≡◌, refl, ap, rules, arith, ◌*◌, ◌+◌, ◌<◌, ◌≤◌, ℕ}
+use Rattle.std.proofs.Common.{refl, ap, arith}
 use Rattle.name_table.specs.Table.{names}
 use Rattle.type_text.specs.Put.{weight, some_level, put-unknown, atom-fits, atom-end, power_nested, brackets_nested, nested_fits, nested_ready, nested_sum, nested_room, nested_end, product-ready, product-room, product-next, product-sum, product-end, lent-ready, lent-end}
 use Rattle.type_text.proofs.writer.+putting.Goals as goal

@@ -1,6 +1,5 @@
-use Rattle.std.proofs.Common.{◌≡◌, refl, ap, rules, arith, ◌*◌, ◌+◌, ◌<◌, ◌≤◌, ℕ}
-use Rattle.name_table.specs.Table.{names}
-use Rattle.type_text.specs.Put.{weight, some_level, put-unknown, atom-fits, atom-end, power_nested, brackets_nested, nested_fits, nested_ready, nested_sum, nested_room, nested_end, product-ready, product-room, product-next, product-sum, product-end, lent-ready, lent-end}
+use Rattle.std.proofs.Common.{◌*◌, ◌+◌}
+use Rattle.type_text.specs.Put.{weight}
 use Rattle.type_text.proofs.writer.+putting.Given as goal
 
 abbrev pub decreases-put : goal.decreases-put

@@ -1,5 +1,4 @@
 -- `atom_width` is the length of the atom's text; a name that is missing has none.
-use Rattle.std.proofs.Common.{arith, rules}
 use Rattle.type_text.specs.Measure.{width_bool, width_integer, width_given, width_missing, part-order}
 use Rattle.type_text.proofs.writer.atom_width.Goals as goal
 

@@ -1,5 +1,4 @@
 -- `put_atom` puts the atom's text, and nothing for a name that is missing.
-use Rattle.std.proofs.Common.{arith, rules}
 use Rattle.type_text.specs.Page.{splice_as, splice_nothing, fits_as}
 use Rattle.type_text.specs.Measure.{part-order, part-within, text-bool, text-integer, text-given, text-missing}
 use Rattle.type_text.proofs.writer.put_atom.Goals as goal
