@@ -5,7 +5,7 @@ use Rattle.std.specs.Prelude.{◌≡◌, refl}
 use mathlib.Core.List.{List, [], ◌∷◌, ◌++◌}
 use Rattle.types.specs.Ty.{bool, int, given, Ty, base, pow, prod, Below, AtomBelow, given_below}
 use Rattle.formula.specs.Environment.{Entry, lacks, holds, Env}
-use Rattle.formula.specs.Tree.{Spelling, spells, no_type_lem, Decl, plain, typed, annotated, Expr, free, bound, literal, atomic, extension, truth, binary, associative, unary, quantified, ascribed, explicit, Exprs, none, more, Pred, constant, variable, relational, connective, junction, negation, quantification, simple, multiple, application, Preds, end, also, Target, Formula, expression, predicate, becomes, becomes_in, becomes_such, place}
+use Rattle.formula.specs.Tree.{Spelling, spells, no_type, Decl, plain, typed, annotated, Expr, free, bound, literal, atomic, extension, truth, binary, associative, unary, quantified, ascribed, explicit, Exprs, none, more, Pred, constant, variable, relational, connective, junction, negation, quantification, simple, multiple, application, Preds, end, also, Target, Formula, expression, predicate, becomes, becomes_in, becomes_such, place}
 use Rattle.formula_laws.specs.Fits.{FitsTy, FitsSpelling, FitsDecl, FitsDecls, Fits, FitsAll, FitsPred, FitsPreds, FitsTargets, FitsPairs, FitsRoot, FitsFormula}
 use Rattle.unification.specs.Arena.{Node, link, leaf, bad, decode}
 use Rattle.unification.specs.Arena as A
@@ -200,7 +200,7 @@ module _ (N : ℕ) where
     slim_claim d (plain p) x f = slim_done tt
     slim_claim d (typed p t) x f = slim_meets t x p f.1.1
     slim_claim d (annotated p (spells t)) x f = slim_spelled t x p p f.1.1
-    slim_claim d (annotated p no_type_lem) x f = slim_done tt
+    slim_claim d (annotated p no_type) x f = slim_done tt
 
     slim_declare : (d : ℕ) (ds : List Decl) → FitsDecls N d ds → Slender (declare Γ ds)
     unfolding declare FitsDecls
@@ -210,7 +210,7 @@ module _ (N : ℕ) where
     slim_ascription : (d : ℕ) (s : Spelling) (x q p : ℕ) → FitsSpelling N d s → Slender (ascription Γ s x q p)
     unfolding ascription FitsSpelling FitsTy
     slim_ascription d (spells t) x q p f = slim_spelled t x q p f.1
-    slim_ascription d no_type_lem x q p f = slim_problem 0 q
+    slim_ascription d no_type x q p f = slim_problem 0 q
 
     slim_expr : {m : W ℕ} (p : ℕ) → Slender m → Slender (expr Γ p m)
     unfolding expr

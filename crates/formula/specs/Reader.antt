@@ -9,7 +9,7 @@ use Rattle.formula.specs.declared.Fault.{Fault}
 use Rattle.formula.specs.declared.Fault.TheVariants.{Malformed, Beyond}
 use Rattle.formula.specs.declared.Out.{Out}
 use Rattle.formula.specs.declared.Out.TheVariants.{Next, Stop}
-use Rattle.formula.specs.Tree.{Spelling, spells, no_type_lem}
+use Rattle.formula.specs.Tree.{Spelling, spells, no_type}
 use Rattle.heads.specs.Heads.{pick, place, byte_at, on_byte}
 use Rattle.types.specs.Limits.{max_slots, max_opened}
 
@@ -87,13 +87,13 @@ type_got (deep p) st = bad (Beyond (place p))
 unfoldable pub type_in : ℕ → List ℕ → ℕ → St → Got Ty
 type_in names s left st = type_got (type_at left names s st.at.0) st
 
-unfoldable pub no_type : ℕ → Place → St → Got Spelling
-no_type zero e st = bad (Beyond st.at)
-no_type (suc left) e st = ok (moved e st) no_type_lem
+unfoldable pub read_no_type : ℕ → Place → St → Got Spelling
+read_no_type zero e st = bad (Beyond st.at)
+read_no_type (suc left) e st = ok (moved e st) no_type
 
 unfoldable pub spelled_in : ℕ → List ℕ → ℕ → St → Got Spelling
 spelled_in names s left st = and_then (type_in names s left st) λ t st₁. ok st₁ (spells t)
 
 -- a type, or 4F
 unfoldable pub spelling_in : ℕ → List ℕ → ℕ → St → Got Spelling
-spelling_in names s left st = on_byte (spelled_in names s left st) (byte_at s st.at) λ k e. pick (eqb k 0x4F) (no_type left e st) (spelled_in names s left st)
+spelling_in names s left st = on_byte (spelled_in names s left st) (byte_at s st.at) λ k e. pick (eqb k 0x4F) (read_no_type left e st) (spelled_in names s left st)

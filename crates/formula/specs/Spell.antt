@@ -3,13 +3,13 @@
 use Rattle.std.specs.Prelude.{ℕ, suc, ◌+◌, ◌/◌, ◌%◌, ◌≡◌, List, [], ◌∷◌, ◌++◌}
 use Rattle.types.specs.Ty as T
 use Rattle.types.specs.Ty.{Ty}
-use Rattle.formula.specs.Tree.{Spelling, spells, no_type_lem, Decl, plain, typed, annotated, Expr, free, bound, literal, atomic, extension, truth, binary, associative, unary, quantified, ascribed, explicit, Exprs, none, more, Pred, constant, variable, relational, connective, junction, negation, quantification, simple, multiple, application, Preds, end, also, Target, Formula, expression, predicate, becomes, becomes_in, becomes_such, decls, exprs, preds, targets, pairs}
+use Rattle.formula.specs.Tree.{Spelling, spells, no_type, Decl, plain, typed, annotated, Expr, free, bound, literal, atomic, extension, truth, binary, associative, unary, quantified, ascribed, explicit, Exprs, none, more, Pred, constant, variable, relational, connective, junction, negation, quantification, simple, multiple, application, Preds, end, also, Target, Formula, expression, predicate, becomes, becomes_in, becomes_such, decls, exprs, preds, targets, pairs}
 
 -- ---- bytes. Counts, names and indices take two, the lower first; the counts of 0A, 26 and of assignments one
 
 unfoldable pub spell_spelling : Spelling → List ℕ
 spell_spelling (spells t) = T.spell t
-spell_spelling no_type_lem = 0x4F ∷ []
+spell_spelling no_type = 0x4F ∷ []
 
 unfoldable pub spell_decl : Decl → List ℕ
 spell_decl (plain p) = 0x10 ∷ []
@@ -84,7 +84,7 @@ size_ty (T.prod t u) = 1 + (size_ty t + size_ty u)
 
 unfoldable pub size_spelling : Spelling → ℕ
 size_spelling (spells t) = size_ty t
-size_spelling no_type_lem = 1
+size_spelling no_type = 1
 
 unfoldable pub size_decl : Decl → ℕ
 size_decl (plain p) = 1

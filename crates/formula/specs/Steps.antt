@@ -38,7 +38,7 @@ use Rattle.formula.specs.declared.Out.TheVariants.{Next, Stop}
 use Rattle.formula.specs.Tree.{Expr, binary, quantified, ascribed, explicit, none, more, Pred, relational, connective, junction, negation, quantification, simple, multiple, application, end, also, Formula, expression, predicate, becomes, becomes_in, becomes_such}
 use Rattle.heads.specs.Reads.{reach-all, root-missing, root-expression, root-predicate, root_assignment, assignment_missing, assignment_becomes, assignment_in, assignment_such, assignment_wrong}
 use Rattle.heads.specs.Heads.{pick, byte_at, on_byte, few_at, expr_head, pred_head, decl_head, target_at, assignment_at, root_head}
-use Rattle.formula.specs.Reader.{Got, ok, bad, and_then, forget, after, on_next, many, moved, own_of, declare_of, closing, closed_of, type_got, type_in, no_type, spelled_in, spelling_in}
+use Rattle.formula.specs.Reader.{Got, ok, bad, and_then, forget, after, on_next, many, moved, own_of, declare_of, closing, closed_of, type_got, type_in, read_no_type, spelled_in, spelling_in}
 use Rattle.formula.specs.Parse.{decl_by, decl_if, decl_at, decls_at, expr_by, pred_by, expr_if, pred_if, expr_deep, pred_deep, expr_at, pred_at, exprs_at, preds_at, target_by, target_in, pair_in, targets_at, pairs_at, becomes_by, becomes_at, root_by, start, formula_at, finish, whole, parsed_by, parse_of, form_of}
 use Rattle.types.specs.Limits.{max_bytes, max_depth, levels, max_slots, max_opened}
 
@@ -148,14 +148,14 @@ module _ (names : ℕ) (s : List ℕ) (left : ℕ) (st : St) where
   spelling_type k q e h = spelled ∙ (rw (after_next, e, ne_eqb k 0x4F h))
 
   pub spelling_deep : (k : ℕ) (q : Place) → byte_at s st.at ≡ B.Of k q → k ≡ 0x4F → left ≡ 0 → Stop (Beyond st.at) ≡ after (Next st) (spelling_in names s left)
-  unfolding spelling_in on_byte no_type forget after
+  unfolding spelling_in on_byte read_no_type forget after
   spelling_deep k q e h z = rw (e, eq-eqb k 0x4F h, z)
 
   pub spelling_none : (k : ℕ) (q : Place) → byte_at s st.at ≡ B.Of k q → k ≡ 0x4F → (left ≡ 0 → ⊥) → Next (moved q st) ≡ after (Next st) (spelling_in names s left)
-  unfolding spelling_in on_byte forget after no_type
+  unfolding spelling_in on_byte forget after read_no_type
   spelling_none k q e h z = rw (e, eq-eqb k 0x4F h) (go left z)
     where
-      go : (l : ℕ) → (l ≡ 0 → ⊥) → Next (moved q st) ≡ forget (no_type l q st)
+      go : (l : ℕ) → (l ≡ 0 → ⊥) → Next (moved q st) ≡ forget (read_no_type l q st)
       go zero z = absurd (z refl)
       go (suc l) z = refl
 

@@ -6,7 +6,7 @@ use Rattle.types.specs.Ty.{Ty}
 -- what an annotation or an ascription spells: a type, or 4F
 pub data Spelling : Type 0 where
   spells : Ty → Spelling
-  no_type_lem : Spelling
+  no_type : Spelling
 
 pub data Decl : Type 0 where
   plain : ℕ → Decl  -- 10

@@ -19,10 +19,10 @@ use Rattle.heads.specs.declared.ExprAt.TheVariants as E
 use Rattle.heads.specs.declared.PredAt.TheVariants as P
 use Rattle.heads.specs.declared.DeclAt.TheVariants as D
 use Rattle.formula.specs.declared.Out.TheVariants.{Next}
-use Rattle.formula.specs.Tree.{Spelling, spells, no_type_lem, Decl, plain, typed, annotated, Expr, free, bound, literal, atomic, extension, truth, binary, associative, unary, quantified, ascribed, explicit, Exprs, none, more, Pred, constant, variable, relational, connective, junction, negation, quantification, simple, multiple, application, Preds, end, also, Target, Formula, expression, predicate, becomes, becomes_in, becomes_such, decls, exprs, preds, targets, pairs, slots, slots_all, slots_pred, slots_preds, slots_pairs, slots_of}
+use Rattle.formula.specs.Tree.{Spelling, spells, no_type, Decl, plain, typed, annotated, Expr, free, bound, literal, atomic, extension, truth, binary, associative, unary, quantified, ascribed, explicit, Exprs, none, more, Pred, constant, variable, relational, connective, junction, negation, quantification, simple, multiple, application, Preds, end, also, Target, Formula, expression, predicate, becomes, becomes_in, becomes_such, decls, exprs, preds, targets, pairs, slots, slots_all, slots_pred, slots_preds, slots_pairs, slots_of}
 use Rattle.formula.specs.Spell.{spell_spelling, spell_decl, spell_decls, spell, spell_all, spell_pred, spell_preds, spell_target, spell_targets, spell_pairs, spell_formula, size_ty, size_spelling, size_decl, size_decls, size, size_all, size_pred, size_preds, size_targets, size_pairs, size_formula, PlacedDecl, PlacedDecls, Placed, Placed_all, PlacedPred, PlacedPreds, PlacedTargets, PlacedPairs, PlacedFormula}
 use Rattle.heads.specs.Heads.{pick, place, byte_of, byte_at, on_byte, expr_head, pred_head, decl_head}
-use Rattle.formula.specs.Reader.{ok, and_then, on_next, many, moved, declare_of, closed, closing, type_got, type_in, no_type, spelled_in, spelling_in}
+use Rattle.formula.specs.Reader.{ok, and_then, on_next, many, moved, declare_of, closed, closing, type_got, type_in, read_no_type, spelled_in, spelling_in}
 use Rattle.formula.specs.Parse.{decl_by, decl_if, decl_at, decls_at, expr_by, pred_by, expr_if, pred_if, expr_at, pred_at, pair_in, targets_at, pairs_at, becomes_by, becomes_at, root_by, start, formula_at}
 use Rattle.types.specs.Limits.{max_depth, max_slots, max_opened, levels}
 use Rattle.formula_laws.specs.Fits.{is_bare, FitsTy, FitsSpelling, FitsDecl, FitsDecls, Fits, FitsAll, FitsPred, FitsPreds, FitsTargets, FitsPairs, FitsRoot, FitsFormula}
@@ -67,19 +67,19 @@ module _ (names : ℕ) (s : List ℕ) where
       read : spelled_in names s left (state p k o) ≡ ok (state (p + size_ty t) k o) (spells t)
       read = rw (type-here t d left p k o r l f h)
 
-      go : (x : List ℕ) → drop p s ≡ x → (on_byte (spelled_in names s left (state p k o)) (byte_of p x) λ b e. pick (eqb b 0x4F) (no_type left e (state p k o)) (spelled_in names s left (state p k o))) ≡ ok (state (p + size_ty t) k o) (spells t)
+      go : (x : List ℕ) → drop p s ≡ x → (on_byte (spelled_in names s left (state p k o)) (byte_of p x) λ b e. pick (eqb b 0x4F) (read_no_type left e (state p k o)) (spelled_in names s left (state p k o))) ≡ ok (state (p + size_ty t) k o) (spells t)
       go [] e = read
       go (b ∷ x) e = rw (ne_eqb b 0x4F (not_none t r x b (sym h ∙ e))) read
 
-  none_here : (d left p k o : ℕ) (r : List ℕ) → d + left ≡ levels → d ≤ max_depth → drop p s ≡ 0x4F ∷ r → spelling_in names s left (state p k o) ≡ ok (state (p + 1) k o) no_type_lem
-  unfolding spelling_in on_byte no_type moved
+  none_here : (d left p k o : ℕ) (r : List ℕ) → d + left ≡ levels → d ≤ max_depth → drop p s ≡ 0x4F ∷ r → spelling_in names s left (state p k o) ≡ ok (state (p + 1) k o) no_type
+  unfolding spelling_in on_byte read_no_type moved
   none_here d zero p k o r l f h = absurd (omega arith)
   none_here d (suc left) p k o r l f h = rw (byte_here s p 0x4F r h)
 
   pub spelling_here : (x : Spelling) (d left p k o : ℕ) (r : List ℕ) → d + left ≡ levels → FitsSpelling names d x → drop p s ≡ spell_spelling x ++ r → spelling_in names s left (state p k o) ≡ ok (state (p + size_spelling x) k o) x
   unfolding FitsSpelling spell_spelling size_spelling
   spelling_here (spells t) d left p k o r l f h = spelled-here t d left p k o r l f h
-  spelling_here no_type_lem d left p k o r l f h = none_here d left p k o r l f h
+  spelling_here no_type d left p k o r l f h = none_here d left p k o r l f h
 
   decl_node : (left p k o : ℕ) (g : DeclHead) → decl_head s (place p) ≡ D.Is g → decl_at names s (suc left) (state p k o) ≡ decl_by names s left (state p k o) g
   unfolding decl_at decl_if

@@ -30,10 +30,10 @@ use Rattle.formula.specs.declared.St.{St}
 use Rattle.formula.specs.declared.Fault.TheVariants.{Malformed, Beyond}
 use Rattle.formula.specs.declared.Out.{Out}
 use Rattle.formula.specs.declared.Out.TheVariants.{Next, Stop}
-use Rattle.formula.specs.Tree.{Spelling, spells, no_type_lem, Decl, plain, typed, annotated, Expr, literal, extension, truth, binary, associative, unary, quantified, ascribed, explicit, Exprs, none, more, Pred, constant, relational, connective, junction, negation, quantification, simple, multiple, application, Preds, end, also, Target, Formula, expression, predicate, becomes, becomes_in, becomes_such, decls, exprs, preds, targets, pairs}
+use Rattle.formula.specs.Tree.{Spelling, spells, no_type, Decl, plain, typed, annotated, Expr, literal, extension, truth, binary, associative, unary, quantified, ascribed, explicit, Exprs, none, more, Pred, constant, relational, connective, junction, negation, quantification, simple, multiple, application, Preds, end, also, Target, Formula, expression, predicate, becomes, becomes_in, becomes_such, decls, exprs, preds, targets, pairs}
 use Rattle.formula.specs.Spell.{spell_spelling, spell_decl, spell_decls, spell, spell_all, spell_pred, spell_preds, spell_target, spell_targets, spell_pairs, spell_formula}
 use Rattle.heads.specs.Heads.{pick, expr_head, pred_head, decl_head, target_at}
-use Rattle.formula.specs.Reader.{Got, ok, bad, and_then, on_next, many, moved, own_of, declare_of, closing, type_got, type_in, no_type, spelled_in, spelling_in}
+use Rattle.formula.specs.Reader.{Got, ok, bad, and_then, on_next, many, moved, own_of, declare_of, closing, type_got, type_in, read_no_type, spelled_in, spelling_in}
 use Rattle.formula.specs.Parse.{decl_by, decl_if, decl_at, decls_at, expr_by, pred_by, expr_if, pred_if, expr_deep, pred_deep, expr_at, pred_at, target_by, target_in, pair_in, targets_at, pairs_at, becomes_by, becomes_at, root_by, formula_at}
 use Rattle.types.specs.Limits.{max_depth, max_slots, max_opened, levels}
 use Rattle.formula_laws.specs.Fits.{is_bare, FitsTy}
@@ -118,9 +118,9 @@ module _ (names : ℕ) (s : List ℕ) (bytes : (i : ℕ) → get_or s i 0 < 256)
   unfolding spelled_in SpellingUp TypeUp ShapeSpelling spell_spelling
   spelled-fails left st d l = fails-last (λ t a. TypeRead names s bytes d st a t) (TypeUp names s bytes st) (SpellingUp names s bytes st) (type_in names s left st) spells (sound-type names s bytes d left l st) (type-fails left st) (λ q u. (spells u.0, u.1, u.2))
 
-  none-fails : (left : ℕ) (st : St) (e : Place) → Fails (SpellingUp names s bytes st) (no_type left e st)
-  unfolding no_type Fails SpellingUp ShapeSpelling
-  none-fails zero st e = (no_type_lem, tt, upto-here s st.at.0 _)
+  none-fails : (left : ℕ) (st : St) (e : Place) → Fails (SpellingUp names s bytes st) (read_no_type left e st)
+  unfolding read_no_type Fails SpellingUp ShapeSpelling
+  none-fails zero st e = (no_type, tt, upto-here s st.at.0 _)
   none-fails (suc left) st e = tt
 
   spelling_fails : (left : ℕ) (st : St) (d : ℕ) → d + left ≡ levels → Fails (SpellingUp names s bytes st) (spelling_in names s left st)
@@ -232,7 +232,7 @@ module _ (names : ℕ) (s : List ℕ) (bytes : (i : ℕ) → get_or s i 0 < 256)
   unfolding ShapePred
   constant-shape = tt
 
-  none-shape : ShapeSpelling names no_type_lem
+  none-shape : ShapeSpelling names no_type
   unfolding ShapeSpelling
   none-shape = tt
 
@@ -303,7 +303,7 @@ module _ (names : ℕ) (s : List ℕ) (bytes : (i : ℕ) → get_or s i 0 < 256)
     expr-by-fails bare (Ascribed e) x =
         fails-next (ExprUp names s bytes bare st) (own_of e st) _ (own-faulty (ExprUp names s bytes bare st) e st (expr-start bare st))
         (λ t o. fails-then (λ u a. ExprRead names s bytes (suc d) false t a u) (ExprUp names s bytes false t) (ExprUp names s bytes bare st) (X false t) _ (hX false t) (fX false t)
-        (λ q u. (ascribed 0 u.0 0 no_type_lem, (λ z. refl), (u.2, none-shape), upto-after s (step-own s e st t _ o x).stand (upto-first s u.3 _)))
+        (λ q u. (ascribed 0 u.0 0 no_type, (λ z. refl), (u.2, none-shape), upto-after s (step-own s e st t _ o x).stand (upto-first s u.3 _)))
         (λ a v r. fails-then (λ u b. SpellingRead names s bytes (suc d) v b u) (SpellingUp names s bytes v) (ExprUp names s bytes bare st) (spelling_in names s left v) _ (sound_spelling names s bytes (suc d) left l v) (spelling_fails left v (suc d) l)
         (λ q u. (ascribed 0 a 0 u.0, (λ z. refl), (shape_of r, u.1), upto-after s (step-own s e st t _ o x).stand (upto-after s r.step.stand u.2))) (λ b w q. tt)))
     expr-by-fails bare (Explicit e) x =

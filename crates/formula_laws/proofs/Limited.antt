@@ -1,6 +1,6 @@
 -- Theorems on specs/Limited.antt.
 use Rattle.std.specs.Prelude.{ℕ, suc, ◌+◌, List, [], ◌∷◌}
-use Rattle.formula.specs.Tree.{Spelling, spells, no_type_lem, Decl, plain, typed, annotated, Expr, free, bound, literal, atomic, extension, truth, binary, associative, unary, quantified, ascribed, explicit, Exprs, none, more, Pred, constant, variable, relational, connective, junction, negation, quantification, simple, multiple, application, Preds, end, also, Target, Formula, expression, predicate, becomes, becomes_in, becomes_such, decls}
+use Rattle.formula.specs.Tree.{Spelling, spells, no_type, Decl, plain, typed, annotated, Expr, free, bound, literal, atomic, extension, truth, binary, associative, unary, quantified, ascribed, explicit, Exprs, none, more, Pred, constant, variable, relational, connective, junction, negation, quantification, simple, multiple, application, Preds, end, also, Target, Formula, expression, predicate, becomes, becomes_in, becomes_such, decls}
 use Rattle.formula_laws.specs.Fits.{FitsTy, FitsSpelling, FitsDecl, FitsDecls, Fits, FitsAll, FitsPred, FitsPreds, FitsPairs, FitsRoot, FitsFormula}
 use Rattle.formula_laws.specs.Shape.{ShapeSpelling, ShapeDecl, ShapeDecls, Shape, ShapeAll, ShapePred, ShapePreds, ShapePairs, ShapeFormula}
 use Rattle.formula_laws.specs.Limited.{LimitedTy, LimitedSpelling, LimitedDecl, LimitedDecls, Limited, LimitedAll, LimitedPred, LimitedPreds, LimitedPairs, LimitedRoot, shape-fits-targets, LimitedFormula}
@@ -9,7 +9,7 @@ use Rattle.formula_laws.specs.Limited.{LimitedTy, LimitedSpelling, LimitedDecl, 
 pub shape-fits_spelling : (names d : ℕ) (x : Spelling) → ShapeSpelling names x → LimitedSpelling d x → FitsSpelling names d x
 unfolding FitsSpelling FitsTy ShapeSpelling LimitedSpelling LimitedTy
 shape-fits_spelling names d (spells t) s l = (l, s)
-shape-fits_spelling names d no_type_lem s l = l
+shape-fits_spelling names d no_type s l = l
 
 pub shape-fits_decl : (names d : ℕ) (x : Decl) → ShapeDecl names x → LimitedDecl d x → FitsDecl names d x
 unfolding FitsDecl FitsTy ShapeDecl LimitedDecl LimitedTy
@@ -80,7 +80,7 @@ shape-fits names f s l = (l.0, shape-fits-root names f s l.1)
 pub fits-limited_spelling : (names d : ℕ) (x : Spelling) → FitsSpelling names d x → LimitedSpelling d x
 unfolding FitsSpelling FitsTy LimitedSpelling LimitedTy
 fits-limited_spelling names d (spells t) f = f.0
-fits-limited_spelling names d no_type_lem f = f
+fits-limited_spelling names d no_type f = f
 
 pub fits-limited_decl : (names d : ℕ) (x : Decl) → FitsDecl names d x → LimitedDecl d x
 unfolding FitsDecl FitsTy LimitedDecl LimitedTy

@@ -1,6 +1,6 @@
 -- Theorems on specs/Shape.antt.
 use Rattle.std.specs.Prelude.{ℕ, suc, ◌+◌, List, [], ◌∷◌}
-use Rattle.formula.specs.Tree.{Spelling, spells, no_type_lem, Decl, plain, typed, annotated, Expr, free, bound, literal, atomic, extension, truth, binary, associative, unary, quantified, ascribed, explicit, Exprs, none, more, Pred, constant, variable, relational, connective, junction, negation, quantification, simple, multiple, application, Preds, end, also, decls}
+use Rattle.formula.specs.Tree.{Spelling, spells, no_type, Decl, plain, typed, annotated, Expr, free, bound, literal, atomic, extension, truth, binary, associative, unary, quantified, ascribed, explicit, Exprs, none, more, Pred, constant, variable, relational, connective, junction, negation, quantification, simple, multiple, application, Preds, end, also, decls}
 use Rattle.formula_laws.specs.Fits.{FitsTy, FitsSpelling, FitsDecl, FitsDecls, Fits, FitsAll, FitsPred, FitsPreds}
 use Rattle.formula_laws.specs.Shape.{ShapeSpelling, ShapeDecl, ShapeDecls, Shape, ShapeAll, ShapePred, ShapePreds}
 
@@ -8,7 +8,7 @@ use Rattle.formula_laws.specs.Shape.{ShapeSpelling, ShapeDecl, ShapeDecls, Shape
 pub fits_spelling : (names d : ℕ) (x : Spelling) → FitsSpelling names d x → ShapeSpelling names x
 unfolding FitsSpelling FitsTy ShapeSpelling
 fits_spelling names d (spells t) f = f.1
-fits_spelling names d no_type_lem f = tt
+fits_spelling names d no_type f = tt
 
 pub fits_decl : (names d : ℕ) (x : Decl) → FitsDecl names d x → ShapeDecl names x
 unfolding FitsDecl FitsTy ShapeDecl

@@ -28,7 +28,7 @@ use Rattle.formula.specs.declared.Fault.TheVariants.{Malformed}
 use Rattle.formula.specs.Tree.{Spelling, Decl, Expr, Exprs, none, more, Pred, Preds, end, also, Target, Formula, expression, predicate, decls, exprs, preds, targets, pairs, slots, slots_all, slots_pred, slots_preds, slots_pairs, slots_of}
 use Rattle.formula.specs.Spell.{spell_spelling, spell_decl, spell_decls, spell, spell_all, spell_pred, spell_preds, spell_target, spell_targets, spell_pairs, spell_formula, size_ty, size_decl, size_decls, size, size_pred, size_targets, PlacedDecl, PlacedDecls, Placed, Placed_all, PlacedPred, PlacedPreds, PlacedTargets, PlacedPairs, PlacedFormula}
 use Rattle.heads.specs.Heads.{pick, place, expr_head, pred_head, decl_head}
-use Rattle.formula.specs.Reader.{Got, ok, bad, and_then, on_next, many, moved, own_of, declare_of, closed, closing, type_got, type_in, no_type, spelled_in, spelling_in}
+use Rattle.formula.specs.Reader.{Got, ok, bad, and_then, on_next, many, moved, own_of, declare_of, closed, closing, type_got, type_in, read_no_type, spelled_in, spelling_in}
 use Rattle.formula.specs.Parse.{decl_by, decl_if, decl_at, decls_at, expr_by, pred_by, expr_if, pred_if, expr_deep, pred_deep, expr_at, pred_at, target_in, pair_in, targets_at, pairs_at, becomes_by, becomes_at, root_by, formula_at}
 use Rattle.types.specs.Limits.{max_depth, max_opened, levels}
 use Rattle.formula_laws.specs.Fits.{is_bare, FitsTy, FitsSpelling, FitsDecl, FitsDecls, Fits, FitsAll, FitsPred, FitsPreds, FitsPairs, FitsRoot}
@@ -68,8 +68,8 @@ module _ (names : ℕ) (s : List ℕ) (bytes : (i : ℕ) → get_or s i 0 < 256)
   unfolding spelled_in Holds spell_spelling FitsSpelling
   sound-spelled d left h st = holds_then (λ t a. TypeRead names s bytes d st a t) (λ t a. SpellingRead names s bytes d st a t) (type_in names s left st) _ (sound-type d left h st) (λ a t r. record { step = r.step; fits = r.fits })
 
-  none-spelled : (d left : ℕ) → d + left ≡ levels → (st : St) (e : Place) → Stand s st.at.0 (0x4F ∷ []) e.0 → Holds (λ t a. SpellingRead names s bytes d st a t) (no_type left e st)
-  unfolding no_type Holds spell_spelling FitsSpelling
+  none-spelled : (d left : ℕ) → d + left ≡ levels → (st : St) (e : Place) → Stand s st.at.0 (0x4F ∷ []) e.0 → Holds (λ t a. SpellingRead names s bytes d st a t) (read_no_type left e st)
+  unfolding read_no_type Holds spell_spelling FitsSpelling
   none-spelled d zero h st e x = tt
   none-spelled d (suc left) h st e x = record { step = step-moved s st (0x4F ∷ []) e x; fits = omega arith }
 

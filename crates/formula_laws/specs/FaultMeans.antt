@@ -36,9 +36,9 @@ use Rattle.formula.specs.declared.St.{St}
 use Rattle.formula.specs.declared.Fault.{Fault}
 use Rattle.formula.specs.declared.Fault.TheVariants.{Malformed, Beyond}
 use Rattle.formula.specs.declared.Out.TheVariants.{Next, Stop}
-use Rattle.formula.specs.Tree.{Spelling, spells, no_type_lem, Decl, Expr, none, more, Pred, end, also, Target, Formula, expression, predicate, becomes, becomes_in, becomes_such}
+use Rattle.formula.specs.Tree.{Spelling, spells, no_type, Decl, Expr, none, more, Pred, end, also, Target, Formula, expression, predicate, becomes, becomes_in, becomes_such}
 use Rattle.heads.specs.Heads.{pick, place, byte_at, on_byte, few_at, expr_head, pred_head, decl_head, target_at}
-use Rattle.formula.specs.Reader.{Got, ok, bad, and_then, on_next, many, moved, own_of, declare_of, closed, closing, type_got, type_in, no_type, spelled_in, spelling_in}
+use Rattle.formula.specs.Reader.{Got, ok, bad, and_then, on_next, many, moved, own_of, declare_of, closed, closing, type_got, type_in, read_no_type, spelled_in, spelling_in}
 use Rattle.formula.specs.Parse.{decl_by, decl_if, decl_at, decls_at, expr_by, pred_by, expr_if, pred_if, expr_deep, pred_deep, expr_at, pred_at, target_by, target_in, pair_in, targets_at, pairs_at, becomes_by, becomes_at, root_by, start, formula_at, finish, whole, too_long, faulty, parsed_by, parse_of}
 use Rattle.formula_laws.specs.Due.{Due, formula_due, target_due, expr_due, pred_due, decl_due, type_due, spelling_due, close_due, end_due, depth_due, Limited, Opening, opens, absent, owned, declared, times, expr_opens, pred_opens, decl_opens, type_opens, target_opens, becomes_opens, root_opens, spelling_opens, type_head, open_of, Within, Stands, Assigns, Lacks, Goes, stay, onward, Passed, too_deep, too_many, too_open}
 
@@ -212,10 +212,10 @@ module _ (names : ℕ) (s : List ℕ) where
   spelled-reads zero d l st i = reads-last _ st (type_in names s zero st) spells (type-deep (spelling_due d) tt (suc d) (omega arith) st st.at.0 (head_of names st.at.0 (drop st.at.0 s)) i)
   spelled-reads (suc left) d l st i = reads-last _ st (type_in names s (suc left) st) spells (type-by (spelling_due d) (suc d) left (omega arith) st (type_reads left (suc d) (omega arith) st) st.at.0 (head_of names st.at.0 (drop st.at.0 s)) i)
 
-  none_reads : (left d : ℕ) → d + left ≡ levels → (st : St) (e : Place) → open_of names s (spelling_due d) st ≡ opens [] (moved e st) → Reads (spelling_due d ∷ []) st (no_type left e st)
-  unfolding no_type depth_due Limited
+  none_reads : (left d : ℕ) → d + left ≡ levels → (st : St) (e : Place) → open_of names s (spelling_due d) st ≡ opens [] (moved e st) → Reads (spelling_due d ∷ []) st (read_no_type left e st)
+  unfolding read_no_type depth_due Limited
   none_reads zero d l st e i = reads-passed Spelling (spelling_due d) tt [] st (moved e st) i (too_deep (omega arith))
-  none_reads (suc left) d l st e i = reads-move (spelling_due d) [] e st _ (omega arith) i (reads_none (moved e st) no_type_lem)
+  none_reads (suc left) d l st e i = reads-move (spelling_due d) [] e st _ (omega arith) i (reads_none (moved e st) no_type)
 
   spelling_reads : (left d : ℕ) → d + left ≡ levels → (st : St) → Reads (spelling_due d ∷ []) st (spelling_in names s left st)
   unfolding spelling_in on_byte open_of spelling_opens
@@ -227,11 +227,11 @@ module _ (names : ℕ) (s : List ℕ) where
       kind : (e : Place) → Bool → Opening
       kind e c = pick c (opens [] (moved e st)) (type_opens (suc d) st (type_head names s st.at))
 
-      by_kind : (k : ℕ) (e : Place) → open_of names s (spelling_due d) st ≡ kind e (eqb k 0x4F) → (c : Bool) → eqb k 0x4F ≡ c → Reads (spelling_due d ∷ []) st (pick c (no_type left e st) (spelled_in names s left st))
+      by_kind : (k : ℕ) (e : Place) → open_of names s (spelling_due d) st ≡ kind e (eqb k 0x4F) → (c : Bool) → eqb k 0x4F ≡ c → Reads (spelling_due d ∷ []) st (pick c (read_no_type left e st) (spelled_in names s left st))
       by_kind k e i true j = none_reads left d l st e (i ∙ ap (kind e) j)
       by_kind k e i false j = spelled-reads left d l st (i ∙ ap (kind e) j)
 
-      by_byte : (b : Byte) → byte_at s st.at ≡ b → Reads (spelling_due d ∷ []) st (on_byte (spelled_in names s left st) b λ k e. pick (eqb k 0x4F) (no_type left e st) (spelled_in names s left st))
+      by_byte : (b : Byte) → byte_at s st.at ≡ b → Reads (spelling_due d ∷ []) st (on_byte (spelled_in names s left st) b λ k e. pick (eqb k 0x4F) (read_no_type left e st) (spelled_in names s left st))
       by_byte B.Missing i = spelled-reads left d l st (ap said i)
       by_byte (B.Of k e) i = by_kind k e (ap said i) (eqb k 0x4F) refl
 

@@ -5,7 +5,7 @@
 use Rattle.std.specs.Prelude.{ℕ, suc, ◌+◌, ◌≤◌, ◌<◌, ◌≡◌, Bool, true, false, List, [], ◌∷◌}
 use Rattle.types.specs.Ty as T
 use Rattle.types.specs.Ty.{Ty}
-use Rattle.formula.specs.Tree.{Spelling, spells, no_type_lem, Decl, plain, typed, annotated, Expr, free, bound, literal, atomic, extension, truth, binary, associative, unary, quantified, ascribed, explicit, Exprs, none, more, Pred, constant, variable, relational, connective, junction, negation, quantification, simple, multiple, application, Preds, end, also, Target, Formula, expression, predicate, becomes, becomes_in, becomes_such, decls, exprs, preds, targets, pairs, slots_of}
+use Rattle.formula.specs.Tree.{Spelling, spells, no_type, Decl, plain, typed, annotated, Expr, free, bound, literal, atomic, extension, truth, binary, associative, unary, quantified, ascribed, explicit, Exprs, none, more, Pred, constant, variable, relational, connective, junction, negation, quantification, simple, multiple, application, Preds, end, also, Target, Formula, expression, predicate, becomes, becomes_in, becomes_such, decls, exprs, preds, targets, pairs, slots_of}
 use Rattle.types.specs.Limits.{max_depth, max_slots, max_opened}
 
 -- an expression that is no 0C
@@ -29,7 +29,7 @@ FitsTy names d t = (d + T.depth t ≤ max_depth) × T.Below names t
 
 unfoldable pub FitsSpelling : ℕ → ℕ → Spelling → Type 0
 FitsSpelling names d (spells t) = FitsTy names d t
-FitsSpelling names d no_type_lem = d ≤ max_depth
+FitsSpelling names d no_type = d ≤ max_depth
 
 unfoldable pub FitsDecl : ℕ → ℕ → Decl → Type 0
 FitsDecl names d (plain p) = d ≤ max_depth

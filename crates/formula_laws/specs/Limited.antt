@@ -4,7 +4,7 @@ use Rattle.std.specs.Prelude.{ℕ, suc, ◌+◌, ◌≤◌, List, [], ◌∷◌}
 use Rattle.types.specs.Ty as T
 use Rattle.types.specs.Ty.{Ty}
 use Rattle.types.specs.Limits.{max_depth, max_slots, max_opened}
-use Rattle.formula.specs.Tree.{Spelling, spells, no_type_lem, Decl, plain, typed, annotated, Expr, free, bound, literal, atomic, extension, truth, binary, associative, unary, quantified, ascribed, explicit, Exprs, none, more, Pred, constant, variable, relational, connective, junction, negation, quantification, simple, multiple, application, Preds, end, also, Target, Formula, expression, predicate, becomes, becomes_in, becomes_such, decls, slots_of}
+use Rattle.formula.specs.Tree.{Spelling, spells, no_type, Decl, plain, typed, annotated, Expr, free, bound, literal, atomic, extension, truth, binary, associative, unary, quantified, ascribed, explicit, Exprs, none, more, Pred, constant, variable, relational, connective, junction, negation, quantification, simple, multiple, application, Preds, end, also, Target, Formula, expression, predicate, becomes, becomes_in, becomes_such, decls, slots_of}
 use Rattle.formula_laws.specs.Fits.{FitsTargets}
 use Rattle.formula_laws.specs.Shape.{ShapeTargets}
 
@@ -14,7 +14,7 @@ LimitedTy d t = d + T.depth t ≤ max_depth
 
 unfoldable pub LimitedSpelling : ℕ → Spelling → Type 0
 LimitedSpelling d (spells t) = LimitedTy d t
-LimitedSpelling d no_type_lem = d ≤ max_depth
+LimitedSpelling d no_type = d ≤ max_depth
 
 unfoldable pub LimitedDecl : ℕ → Decl → Type 0
 LimitedDecl d (plain p) = d ≤ max_depth

@@ -2,12 +2,12 @@
 -- A tree that keeps the limits is well formed (`fits-shape`).
 use Rattle.std.specs.Prelude.{ℕ, ◌≤◌, ◌<◌, ◌≡◌, true, List, [], ◌∷◌}
 use Rattle.types.specs.Ty as T
-use Rattle.formula.specs.Tree.{Spelling, spells, no_type_lem, Decl, plain, typed, annotated, Expr, free, bound, literal, atomic, extension, truth, binary, associative, unary, quantified, ascribed, explicit, Exprs, none, more, Pred, constant, variable, relational, connective, junction, negation, quantification, simple, multiple, application, Preds, end, also, Target, Formula, expression, predicate, becomes, becomes_in, becomes_such, decls, exprs, preds, targets, pairs}
+use Rattle.formula.specs.Tree.{Spelling, spells, no_type, Decl, plain, typed, annotated, Expr, free, bound, literal, atomic, extension, truth, binary, associative, unary, quantified, ascribed, explicit, Exprs, none, more, Pred, constant, variable, relational, connective, junction, negation, quantification, simple, multiple, application, Preds, end, also, Target, Formula, expression, predicate, becomes, becomes_in, becomes_such, decls, exprs, preds, targets, pairs}
 use Rattle.formula_laws.specs.Fits.{is_bare, FitsTargets}
 
 unfoldable pub ShapeSpelling : ℕ → Spelling → Type 0
 ShapeSpelling names (spells t) = T.Below names t
-ShapeSpelling names no_type_lem = Unit {0}
+ShapeSpelling names no_type = Unit {0}
 
 unfoldable pub ShapeDecl : ℕ → Decl → Type 0
 ShapeDecl names (plain p) = Unit {0}

@@ -3,7 +3,7 @@ use Rattle.std.specs.Prelude.{ℕ, ◌+◌, ◌≡◌, refl, List, [], ◌∷◌
 use Rattle.std.proofs.Common.{arith, ◌∙◌, length-append}
 use Rattle.types.specs.Ty as T
 use Rattle.types.specs.Ty.{Ty}
-use Rattle.formula.specs.Tree.{Spelling, spells, no_type_lem, Decl, plain, typed, annotated, Expr, free, bound, literal, atomic, extension, truth, binary, associative, unary, quantified, ascribed, explicit, Exprs, none, more, Pred, constant, variable, relational, connective, junction, negation, quantification, simple, multiple, application, Preds, end, also, Target, Formula, expression, predicate, becomes, becomes_in, becomes_such}
+use Rattle.formula.specs.Tree.{Spelling, spells, no_type, Decl, plain, typed, annotated, Expr, free, bound, literal, atomic, extension, truth, binary, associative, unary, quantified, ascribed, explicit, Exprs, none, more, Pred, constant, variable, relational, connective, junction, negation, quantification, simple, multiple, application, Preds, end, also, Target, Formula, expression, predicate, becomes, becomes_in, becomes_such}
 use Rattle.formula.specs.Spell.{spell_spelling, spell_decl, spell_decls, spell, spell_all, spell_pred, spell_preds, spell_target, spell_targets, spell_pairs, spell_formula, size_ty, size_spelling, size_decl, size_decls, size, size_all, size_pred, size_preds, size_targets, size_pairs, size_formula}
 
 pub two : (x y : List ℕ) (n m : ℕ) → length x ≡ n → length y ≡ m → length (x ++ y) ≡ n + m
@@ -20,7 +20,7 @@ length_ty (T.prod t u) = let h = two (T.spell t) (T.spell u) _ _ (length_ty t) (
 pub length_spelling : (x : Spelling) → length (spell_spelling x) ≡ size_spelling x
 unfolding spell_spelling size_spelling
 length_spelling (spells t) = length_ty t
-length_spelling no_type_lem = refl
+length_spelling no_type = refl
 
 pub length_decl : (x : Decl) → length (spell_decl x) ≡ size_decl x
 unfolding spell_decl size_decl

@@ -34,10 +34,10 @@ use Rattle.formula.specs.declared.St.{St}
 use Rattle.formula.specs.declared.Fault.{Fault}
 use Rattle.formula.specs.declared.Fault.TheVariants.{Malformed, Beyond}
 use Rattle.formula.specs.declared.Out.TheVariants.{Next, Stop}
-use Rattle.formula.specs.Tree.{Spelling, spells, no_type_lem, Decl, Expr, none, more, Pred, end, also, Target, Formula, expression, predicate, becomes, becomes_in, becomes_such}
+use Rattle.formula.specs.Tree.{Spelling, spells, no_type, Decl, Expr, none, more, Pred, end, also, Target, Formula, expression, predicate, becomes, becomes_in, becomes_such}
 use Rattle.heads.specs.Reads.{byte_in}
 use Rattle.heads.specs.Heads.{pick, place, byte_of, byte_at, on_byte, on_word, word_at, name_at, op_at, count_at, few_at, expr_body, expr_head, pred_body, pred_head, decl_head, target_at}
-use Rattle.formula.specs.Reader.{Got, ok, bad, and_then, on_next, many, moved, own_of, declare_of, closed, closing, type_got, type_in, no_type, spelled_in, spelling_in}
+use Rattle.formula.specs.Reader.{Got, ok, bad, and_then, on_next, many, moved, own_of, declare_of, closed, closing, type_got, type_in, read_no_type, spelled_in, spelling_in}
 use Rattle.formula.specs.Parse.{decl_by, decl_if, decl_at, decls_at, expr_by, pred_by, expr_if, pred_if, expr_deep, pred_deep, expr_at, pred_at, target_by, target_in, pair_in, targets_at, pairs_at, becomes_by, becomes_at, root_by, start, formula_at, finish, whole, faulty, parsed_by, parse_of}
 use Rattle.types.specs.Limits.{max_bytes, max_depth, max_slots, max_opened, levels}
 use Rattle.formula_laws.specs.Says.{ExprSays, PredSays, DeclSays, TargetSays, expr-says, pred_says, decl_says, target-says}
@@ -321,12 +321,12 @@ module _ (names : ℕ) (s s' : List ℕ) (m : ℕ) (short : m ≤ length s) (sho
   unfolding spelled_in
   spelled_rep left st = rep_last m st.at.0 (type_in names s left st) (type_in names s' left st) spells (type_in_rep left st)
 
-  none_rep : (left : ℕ) (e : Place) (st : St) → st.at.0 ≤ e.0 → Rep m st.at.0 (no_type left e st) (no_type left e st)
-  unfolding no_type moved at_fault
+  none_rep : (left : ℕ) (e : Place) (st : St) → st.at.0 ≤ e.0 → Rep m st.at.0 (read_no_type left e st) (read_no_type left e st)
+  unfolding read_no_type moved at_fault
   none_rep zero e st h = rep_bad Spelling m st.at.0 (Beyond st.at) (omega arith)
-  none_rep (suc left) e st h = rep_ok m st.at.0 _ no_type_lem h
+  none_rep (suc left) e st h = rep_ok m st.at.0 _ no_type h
 
-  spelling_by : (left : ℕ) (st : St) (b : Byte) → byte_at s st.at ≡ b → Rep m st.at.0 (on_byte (spelled_in names s left st) b λ k e. pick (eqb k 0x4F) (no_type left e st) (spelled_in names s left st)) (on_byte (spelled_in names s' left st) b λ k e. pick (eqb k 0x4F) (no_type left e st) (spelled_in names s' left st))
+  spelling_by : (left : ℕ) (st : St) (b : Byte) → byte_at s st.at ≡ b → Rep m st.at.0 (on_byte (spelled_in names s left st) b λ k e. pick (eqb k 0x4F) (read_no_type left e st) (spelled_in names s left st)) (on_byte (spelled_in names s' left st) b λ k e. pick (eqb k 0x4F) (read_no_type left e st) (spelled_in names s' left st))
   unfolding on_byte
   spelling_by left st B.Missing h = spelled_rep left st
   spelling_by left st (B.Of k e) h = go (eqb k 0x4F)
@@ -334,7 +334,7 @@ module _ (names : ℕ) (s s' : List ℕ) (m : ℕ) (short : m ≤ length s) (sho
       ends : st.at.0 ≤ e.0
       ends = byte_ends s st.at k e h
 
-      go : (c : Bool) → Rep m st.at.0 (pick c (no_type left e st) (spelled_in names s left st)) (pick c (no_type left e st) (spelled_in names s' left st))
+      go : (c : Bool) → Rep m st.at.0 (pick c (read_no_type left e st) (spelled_in names s left st)) (pick c (read_no_type left e st) (spelled_in names s' left st))
       go true = none_rep left e st ends
       go false = spelled_rep left st
 
@@ -345,7 +345,7 @@ module _ (names : ℕ) (s s' : List ℕ) (m : ℕ) (short : m ≤ length s) (sho
   unfolding spelling_in
   spelling_rep left st = go (dec_le (st.at.0 + 4) m)
     where
-      go : Dec (st.at.0 + 4 ≤ m) → Rep m st.at.0 (on_byte (spelled_in names s left st) (byte_at s st.at) λ k e. pick (eqb k 0x4F) (no_type left e st) (spelled_in names s left st)) (on_byte (spelled_in names s' left st) (byte_at s' st.at) λ k e. pick (eqb k 0x4F) (no_type left e st) (spelled_in names s' left st))
+      go : Dec (st.at.0 + 4 ≤ m) → Rep m st.at.0 (on_byte (spelled_in names s left st) (byte_at s st.at) λ k e. pick (eqb k 0x4F) (read_no_type left e st) (spelled_in names s left st)) (on_byte (spelled_in names s' left st) (byte_at s' st.at) λ k e. pick (eqb k 0x4F) (read_no_type left e st) (spelled_in names s' left st))
       go (yes h) = rw (← byte_same st.at (omega arith)) (spelling_by left st (byte_at s st.at) refl)
       go (no h) = rep_far m st.at.0 _ _ _ (omega arith) (spelling_by left st (byte_at s st.at) refl)
 

@@ -10,7 +10,7 @@ use Rattle.std.proofs.Math.ListN.{length, drop, set}
 use Rattle.std.proofs.Math.Seq.{get_or-set_other}
 use Rattle.types.specs.Ty.{Atom, bool, int, given, Ty, base, pow, prod, depth, spell, spell_atom, AtomBelow, bool-below, int-below, given_below, Below}
 use Rattle.formula.specs.Environment.{Env}
-use Rattle.formula.specs.Tree.{Spelling, spells, no_type_lem, Decl, plain, typed, annotated, decls}
+use Rattle.formula.specs.Tree.{Spelling, spells, no_type, Decl, plain, typed, annotated, decls}
 use Rattle.formula.specs.Spell.{spell_spelling, spell_decl, spell_decls, size_decl, size_decls, PlacedDecl, PlacedDecls}
 use Rattle.formula_laws.specs.Fits.{FitsTy, FitsSpelling, FitsDecl, FitsDecls}
 use Rattle.formula_laws.specs.Sizes.{length_decl}
@@ -165,7 +165,7 @@ module _ (Γ : Env) (env : List ℕ) (cap room : ℕ) (wide : cap ≤ 32768) (br
   runs_ascription (spells t) d x p m B rest f e =
       runs_if Γ env cap room m (ascription_of s env x p m) (spelled_of s env x m.st.at.0 p m) (spelled Γ t x m.st.at.0 p) B (λ _. B) _ (λ g. (let h = type-first t rest m.st.at.0 e in asc_type x p h.0 m h.1 h.2))
       (runs_spelled Γ env cap room wide brief s short B t x m.st.at.0 p m rest (fits-deep most d t f) (fits_below most d t few f) e)
-  runs_ascription no_type_lem d x p m B rest f e =
+  runs_ascription no_type d x p m B rest f e =
       let m1 : Mach = list_of 0 m.st.at.0 0xFFFF m in
       let E : ℕ = m.st.at.0 + 1 in
       runs_if Γ env cap room m (ascription_of s env x p m) (placed E m1) (problem 0 m.st.at.0) B (λ _. B) _ (λ g. asc_none x p m (byte_first m.st.at.0 0x4F rest e))
@@ -206,7 +206,7 @@ module _ (Γ : Env) (env : List ℕ) (cap room : ℕ) (wide : cap ≤ 32768) (br
       subst (λ (q : ℕ). Runs Γ env cap room m (claim_of s env (Annotated (place n)) x p m) (spelled Γ t x q q) B (λ _. B) (To m (length (spell t)))) (sym w)
       (runs_if Γ env cap room m (claim_of s env (Annotated (place n)) x p m) (spelled_of s env x p p m) (spelled Γ t x p p) B (λ _. B) (To m (length (spell t))) (λ g. (let h = type-first t rest m.st.at.0 e in claim-spelled n x p h.0 m h.1 h.2))
       (runs_spelled Γ env cap room wide brief s short B t x p p m rest (fits-deep most (suc d) t f.1) (fits_below most (suc d) t few f.1) e))
-  runs_claim (annotated r no_type_lem) d x p n m B rest f w e =
+  runs_claim (annotated r no_type) d x p n m B rest f w e =
       runs_if Γ env cap room m (claim_of s env (Annotated (place n)) x p m) (with_st (standing (m.st.at.0 + 1) m.st.from.0 m.st.last.0 m.st) m) (done tt) B (λ _. B) (To m 1)
       (λ g. claim-none n x p m (byte_first m.st.at.0 0x4F rest e) ∙ placed_at (m.st.at.0 + 1) m g)
       (runs_stand Γ env cap room m (m.st.at.0 + 1) m.st.from.0 m.st.last.0 tt B (To m 1) (refl, refl))

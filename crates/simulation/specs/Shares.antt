@@ -11,7 +11,7 @@ use Rattle.meter.specs.Meter.{Out, spent, halt, broken, full}
 use Rattle.meter.specs.Meter as Mt
 use Rattle.types.specs.Ty.{Ty, base, pow, prod, bool, int, given}
 use Rattle.formula.specs.Environment.{Entry, lacks, holds, Env}
-use Rattle.formula.specs.Tree.{spells, no_type_lem, Decl, plain, typed, annotated, Pred, Target, decls, targets}
+use Rattle.formula.specs.Tree.{spells, no_type, Decl, plain, typed, annotated, Pred, Target, decls, targets}
 use Rattle.formula.specs.Spell.{spell_decls, spell_pred, spell_target, spell_targets, size_decls, size_pred, size_targets, PlacedDecls, PlacedPred, PlacedTargets}
 use Rattle.formula_laws.specs.Fits.{FitsDecls, FitsPred, FitsTargets}
 use Rattle.formula_laws.specs.Sizes.{length-decls, length-targets}
@@ -144,7 +144,7 @@ module _ (Γ : Env) where
   quiet_claim (plain p) x n row = quiet_done {A = U} tt n row
   quiet_claim (typed p t) x n row = quiet_meets t x p n row
   quiet_claim (annotated p (spells t)) x n row = quiet_spelled t x p p n row
-  quiet_claim (annotated p no_type_lem) x n row = quiet_done {A = U} tt n row
+  quiet_claim (annotated p no_type) x n row = quiet_done {A = U} tt n row
 
   -- ---- the references of the slots are what targets and declarations hand on
   abbrev pub refs : List (ℕ × ℕ) → List ℕ

@@ -2,7 +2,7 @@
 -- application, 0 for an ascription to 4F.
 use Rattle.std.specs.Prelude.{ℕ, ◌+◌, ◌≡◌, refl, ◌⊎◌, Bool, true, false, List, [], ◌∷◌, ◌++◌, ltb}
 use Rattle.std.proofs.Common.{sym, subst, inl, inr}
-use Rattle.formula.specs.Tree.{Spelling, spells, no_type_lem, Expr, free, bound, literal, atomic, extension, truth, binary, associative, unary, quantified, ascribed, explicit, Exprs, none, more, Pred, constant, variable, relational, connective, junction, negation, quantification, simple, multiple, application, Preds, end, also, Target, Formula, expression, predicate, becomes, becomes_in, becomes_such, decls}
+use Rattle.formula.specs.Tree.{Spelling, spells, no_type, Expr, free, bound, literal, atomic, extension, truth, binary, associative, unary, quantified, ascribed, explicit, Exprs, none, more, Pred, constant, variable, relational, connective, junction, negation, quantification, simple, multiple, application, Preds, end, also, Target, Formula, expression, predicate, becomes, becomes_in, becomes_such, decls}
 use Rattle.typing.specs.Equations.{first_of}
 use Rattle.typing.specs.Typings.{index_excluded, spelling_excluded, excluded, excluded_all, excluded_pred, excluded_preds, pair_excluded, excluded_of}
 use Rattle.unification.specs.Ops.{In}
@@ -29,7 +29,7 @@ owns_index n i p = go (ltb i n)
 owns_spelling : (s : Spelling) (q : ℕ) → Owns (spelling_excluded s q)
 unfolding spelling_excluded
 owns_spelling (spells t) q = tt
-owns_spelling no_type_lem q = (inl refl, tt)
+owns_spelling no_type q = (inl refl, tt)
 
 mutual
   unfolding excluded

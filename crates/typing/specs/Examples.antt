@@ -4,7 +4,7 @@ use Rattle.std.specs.Prelude.{ℕ, zero, suc, ◌≡◌, refl, List, [], ◌∷�
 use Rattle.std.proofs.Common.{sym, ◌∙◌, ap, arith}
 use Rattle.types.specs.Ty.{bool, int, given, Ty, base, pow, prod}
 use Rattle.formula.specs.Environment.{lacks, holds, Env}
-use Rattle.formula.specs.Tree.{spells, no_type_lem, plain, typed, annotated, free, bound, literal, atomic, extension, truth, binary, associative, unary, quantified, ascribed, explicit, none, more, constant, relational, junction, quantification, simple, multiple, application, end, also, Formula, expression, predicate, becomes, becomes_in, becomes_such, decls, targets, slots, slots_of}
+use Rattle.formula.specs.Tree.{spells, no_type, plain, typed, annotated, free, bound, literal, atomic, extension, truth, binary, associative, unary, quantified, ascribed, explicit, none, more, constant, relational, junction, quantification, simple, multiple, application, end, also, Formula, expression, predicate, becomes, becomes_in, becomes_such, decls, targets, slots, slots_of}
 use Rattle.typing.specs.Equations.{◌⟷◌, read, parts, relates, first_of, look, never_typed}
 use Rattle.typing.specs.Rules.{atomic_rules, binary_rules, associative_rules, unary_rules, quantified_rules, relational_rules, extension_rule, simple_rule, under, types, Typed, product, Typing}
 use Rattle.typing.specs.Typings.{None, Several, from_list}
@@ -229,7 +229,7 @@ applied : None empty (predicate (application 0 none))
 unfolding Typed
 applied t = t.2.rules
 
-ascribed-to-nothing : None empty (expression (ascribed 0 (literal 1) 2 no_type_lem))
+ascribed-to-nothing : None empty (expression (ascribed 0 (literal 1) 2 no_type))
 unfolding Typed
 ascribed-to-nothing t = t.2.rules.2
 

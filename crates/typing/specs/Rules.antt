@@ -6,7 +6,7 @@ use Rattle.std.specs.Prelude.{ℕ, zero, suc, ◌+◌, ◌≡◌}
 use mathlib.Core.List.{List, [], ◌∷◌}
 use Rattle.types.specs.Ty.{bool, int, given, Ty, base, pow, prod}
 use Rattle.formula.specs.Environment.{lacks, holds, Env}
-use Rattle.formula.specs.Tree.{Spelling, spells, no_type_lem, Decl, plain, typed, annotated, Expr, free, bound, literal, atomic, extension, truth, binary, associative, unary, quantified, ascribed, explicit, Exprs, none, more, Pred, constant, variable, relational, connective, junction, negation, quantification, simple, multiple, application, Preds, end, also, Target, Formula, expression, predicate, becomes, becomes_in, becomes_such, decls, targets, slots, slots_pred}
+use Rattle.formula.specs.Tree.{Spelling, spells, no_type, Decl, plain, typed, annotated, Expr, free, bound, literal, atomic, extension, truth, binary, associative, unary, quantified, ascribed, explicit, Exprs, none, more, Pred, constant, variable, relational, connective, junction, negation, quantification, simple, multiple, application, Preds, end, also, Target, Formula, expression, predicate, becomes, becomes_in, becomes_such, decls, targets, slots, slots_pred}
 use Rattle.typing.specs.Equations.{BOOL, ℤ, ℙ, ◌⨯◌, ◌⟷◌, ◌≐◌, a, b, c, d, T, L, R, C, Rule, Obeys, parts, Every, forward, backward, Many, alike, chain, no_rule, Suits, look, never, never_typed}
 
 -- ---- the operators' rules. T: the record's type, L and R: its left and right part's, C: its only part's; a, b, c, d: any types
@@ -106,7 +106,7 @@ module _ (Γ : Env) (τ : ℕ → Ty) (ρ : ℕ → Ty) where
   DeclRule (plain p) k = Unit {0}
   DeclRule (typed p t) k = τ k ≡ t
   DeclRule (annotated p (spells t)) k = (τ k ≡ t) × Noted t
-  DeclRule (annotated p no_type_lem) k = Unit {0}
+  DeclRule (annotated p no_type) k = Unit {0}
 
   abbrev pub DeclRules : List Decl → ℕ → Type 0
   DeclRules [] k = Unit {0}
@@ -126,7 +126,7 @@ module _ (Γ : Env) (τ : ℕ → Ty) (ρ : ℕ → Ty) where
   -- an ascription to a type, k being the expression's slot; one to 4F has no typing
   abbrev pub Ascribes : Spelling → ℕ → Type 0
   Ascribes (spells t) k = (τ k ≡ t) × Noted t
-  Ascribes no_type_lem k = ⊥
+  Ascribes no_type k = ⊥
 
   -- the types of a row of expressions, the first of which has the slot k
   unfoldable pub types : Exprs → ℕ → List Ty

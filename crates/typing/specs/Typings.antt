@@ -4,7 +4,7 @@
 use Rattle.std.specs.Prelude.{ℕ, zero, suc, ◌+◌, ◌<◌, ◌≡◌, Bool, true, false, List, [], ◌∷◌, ◌++◌, eqb, ltb}
 use Rattle.types.specs.Ty.{bool, int, given, Ty, base, pow, prod}
 use Rattle.formula.specs.Environment.{Entry, lacks, holds, Env}
-use Rattle.formula.specs.Tree.{Spelling, spells, no_type_lem, Decl, plain, typed, annotated, Expr, free, bound, literal, atomic, extension, truth, binary, associative, unary, quantified, ascribed, explicit, Exprs, none, more, Pred, constant, variable, relational, connective, junction, negation, quantification, simple, multiple, application, Preds, end, also, Target, Formula, expression, predicate, becomes, becomes_in, becomes_such, decls, slots_of}
+use Rattle.formula.specs.Tree.{Spelling, spells, no_type, Decl, plain, typed, annotated, Expr, free, bound, literal, atomic, extension, truth, binary, associative, unary, quantified, ascribed, explicit, Exprs, none, more, Pred, constant, variable, relational, connective, junction, negation, quantification, simple, multiple, application, Preds, end, also, Target, Formula, expression, predicate, becomes, becomes_in, becomes_such, decls, slots_of}
 use Rattle.typing.specs.Equations.{first_of}
 use Rattle.typing.specs.Rules.{Typing}
 
@@ -82,7 +82,7 @@ module _ (Γ : Env) where
 
   unfoldable pub spelling_meetings : Spelling → ℕ → List (ℕ × ℕ)
   spelling_meetings (spells t) p = notings t p
-  spelling_meetings no_type_lem p = []
+  spelling_meetings no_type p = []
 
   unfoldable pub decl_meetings : Decl → List (ℕ × ℕ)
   decl_meetings (plain p) = []
@@ -211,7 +211,7 @@ index_excluded n i p = first_of (ltb i n) [] ((4, p) ∷ [])
 
 unfoldable pub spelling_excluded : Spelling → ℕ → List (ℕ × ℕ)
 spelling_excluded (spells t) q = []
-spelling_excluded no_type_lem q = (0, q) ∷ []
+spelling_excluded no_type q = (0, q) ∷ []
 
 unfoldable mutual
   pub excluded : Expr → ℕ → List (ℕ × ℕ)

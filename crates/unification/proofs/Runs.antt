@@ -13,7 +13,7 @@ use Rattle.unification.specs.Ops.{Op, pay, make, compare, list, Bench, noted, gr
 use Rattle.unification.proofs.Exec.{exec_nil, exec_unpaid, exec-paid, exec-made, exec_no_room, exec-compared, exec-listed}
 use Rattle.unification.specs.ByRule.{ends, Tells, told, Told}
 use Rattle.unification.proofs.ByRule.{tells-run, run-tells}
-use Rattle.unification.specs.BothWays.{two_ranks, left_bound_lem}
+use Rattle.unification.specs.BothWays.{two_ranks, left_bound_words}
 use Rattle.unification.proofs.BothWays.{as_the_rust}
 use Rattle.unification.specs.Shapes.{Same, same_refl, same_sym}
 use Rattle.unification.specs.Direction.{OneBinding}
@@ -163,6 +163,6 @@ module _ (by : Direction) (one : OneBinding by) (cap : ℕ) (os : List Op) (s : 
 abbrev bench : Words → Bench
 bench ws = record { count = 2; words = ws; problems = [] }
 
-pub left-run : Runs left_bound (compare 0 1 7 ∷ []) (bench two_ranks) (bench left_bound_lem)
+pub left-run : Runs left_bound (compare 0 1 7 ∷ []) (bench two_ranks) (bench left_bound_words)
 unfolding learn noted
 left-run = compared as_the_rust ended

@@ -9,5 +9,5 @@ two_ranks = 0x4E ∷ 0 ∷ 1 ∷ 0x4E ∷ 0 ∷ 0 ∷ []
 abbrev pub right_bound : Words
 right_bound = 0x4E ∷ 0 ∷ 1 ∷ 0x4D ∷ 0 ∷ 0 ∷ []
 
-abbrev pub left_bound_lem : Words
-left_bound_lem = 0x4D ∷ 1 ∷ 1 ∷ 0x4E ∷ 0 ∷ 0 ∷ []
+abbrev pub left_bound_words : Words
+left_bound_words = 0x4D ∷ 1 ∷ 1 ∷ 0x4E ∷ 0 ∷ 0 ∷ []

@@ -3,7 +3,7 @@
 use Rattle.std.specs.Prelude.{ℕ, ◌≡◌, refl, [], ◌∷◌}
 use Rattle.types.specs.Ty.{int, given, base, pow}
 use Rattle.formula.specs.Environment.{lacks, holds, Env}
-use Rattle.formula.specs.Tree.{spells, no_type_lem, plain, typed, annotated, free, bound, literal, atomic, extension, truth, binary, associative, unary, quantified, ascribed, explicit, none, more, constant, relational, junction, quantification, simple, multiple, application, end, also, expression, predicate, becomes, becomes_in, becomes_such, place}
+use Rattle.formula.specs.Tree.{spells, no_type, plain, typed, annotated, free, bound, literal, atomic, extension, truth, binary, associative, unary, quantified, ascribed, explicit, none, more, constant, relational, junction, quantification, simple, multiple, application, end, also, expression, predicate, becomes, becomes_in, becomes_such, place}
 use Rattle.unification.specs.Ops.{Op, pay, make, compare, list}
 use Rattle.typing.specs.Equations.{first_of, look}
 use Rattle.walk.specs.Writer.{found, find, done, glue, ◌>>=◌, enter, own, node, same, problem, enrol}
@@ -115,7 +115,7 @@ unfolding found find done glue ◌>>=◌ enter own node same problem enrol pick 
 case_ascribed = refl
 
 -- 0B 03 4F: problem 0 at the 4F
-case_no_type : (walked empty (expression (ascribed 0 (literal 1) 2 no_type_lem))).ops
+case_no_type : (walked empty (expression (ascribed 0 (literal 1) 2 no_type))).ops
     ≡ pay ∷ pay ∷ new_integer ∷ list 0 2 ∷ []
 unfolding found find done glue ◌>>=◌ enter own node same problem enrol pick play perform three scripted atomic_scripts binary_scripts unary_scripts quantified_scripts relational_scripts associative_scripts relation stepped last gather atom lift from_env known counted over name note_of notes meets spelled claim at_decl declare ascription expr script_of walk target pairs products targets_of shares forget walk_formula walked look first_of place
 case_no_type = refl

@@ -6,7 +6,7 @@ use Rattle.std.proofs.Common.{sym, ◌∙◌, ap, ap₂, arith, lt-ltb, le-ltb}
 use mathlib.Core.List.{List, [], ◌∷◌, ◌++◌, append-nil}
 use Rattle.types.specs.Ty.{bool, int, given, Ty, base, pow, prod}
 use Rattle.formula.specs.Environment.{Entry, lacks, holds, Env}
-use Rattle.formula.specs.Tree.{Spelling, spells, no_type_lem, Decl, plain, typed, annotated, Expr, free, bound, literal, atomic, extension, truth, binary, associative, unary, quantified, ascribed, explicit, Exprs, none, more, Pred, constant, variable, relational, connective, junction, negation, quantification, simple, multiple, application, Preds, end, also, Target, Formula, expression, predicate, becomes, becomes_in, becomes_such, place, decls}
+use Rattle.formula.specs.Tree.{Spelling, spells, no_type, Decl, plain, typed, annotated, Expr, free, bound, literal, atomic, extension, truth, binary, associative, unary, quantified, ascribed, explicit, Exprs, none, more, Pred, constant, variable, relational, connective, junction, negation, quantification, simple, multiple, application, Preds, end, also, Target, Formula, expression, predicate, becomes, becomes_in, becomes_such, place, decls}
 use Rattle.unification.specs.Good.{Assignment}
 use Rattle.unification.specs.Ops.{Op, pay, make, compare, list, Meets, listed}
 use Rattle.typing.specs.Equations.{Way, forward, backward, first_of}
@@ -148,12 +148,12 @@ module _ (Γ : Env) where
   lists_claim (plain p) x = lists_done tt tt
   lists_claim (typed p t) x = lists_meets t x p
   lists_claim (annotated p (spells t)) x = lists_spelled t x p p
-  lists_claim (annotated p no_type_lem) x = lists_done tt tt
+  lists_claim (annotated p no_type) x = lists_done tt tt
 
   lists_ascription : (s : Spelling) (x q p : ℕ) → Lists (spelling_excluded s q) (ascription Γ s x q p) Any
   unfolding ascription spelling_excluded
   lists_ascription (spells t) x q p = lists_spelled t x q p
-  lists_ascription no_type_lem x q p = lists_problem 0 q
+  lists_ascription no_type x q p = lists_problem 0 q
 
   lists_declare : (ds : List Decl) → Lists [] (declare Γ ds) (Long (decls ds))
   unfolding declare decls

@@ -6,7 +6,7 @@ use Rattle.std.proofs.Math.Bool.{true}
 use mathlib.Core.List.{List, [], ◌∷◌, ◌++◌, append-nil, append_assoc}
 use Rattle.types.specs.Ty.{bool, int, given, Ty, base, pow, prod}
 use Rattle.formula.specs.Environment.{Entry, lacks, holds, Env}
-use Rattle.formula.specs.Tree.{Spelling, spells, no_type_lem, Decl, plain, typed, annotated, Expr, free, bound, literal, atomic, extension, truth, binary, associative, unary, quantified, ascribed, explicit, Exprs, none, more, Pred, constant, variable, relational, connective, junction, negation, quantification, simple, multiple, application, Preds, end, also, Target, Formula, expression, predicate, becomes, becomes_in, becomes_such, place}
+use Rattle.formula.specs.Tree.{Spelling, spells, no_type, Decl, plain, typed, annotated, Expr, free, bound, literal, atomic, extension, truth, binary, associative, unary, quantified, ascribed, explicit, Exprs, none, more, Pred, constant, variable, relational, connective, junction, negation, quantification, simple, multiple, application, Preds, end, also, Target, Formula, expression, predicate, becomes, becomes_in, becomes_such, place}
 use Rattle.typing.specs.Equations.{Way, forward, backward}
 use Rattle.typing.specs.Typings.{decl_places, places, places-all, places_pred, places-preds, target_places, pair_places, places_of, meeting, notings, spelling_meetings, decl_meetings, decls_meetings, meetings, meetings_all, meetings_pred, meetings_preds, target_meetings, pair_meetings, meetings_of, has, meet, meet_all, lacking}
 use Rattle.walk.specs.Writer.{Row, Found, at, absent, find, W, done, glue, ◌>>=◌, UNKNOWN, BOOLEAN, INTEGER, GIVEN, POWER, PRODUCT, problem, enrol}
@@ -92,12 +92,12 @@ module _ (Γ : Env) where
   static_claim (plain p) x = static_done tt
   static_claim (typed p t) x = static_meets t x p
   static_claim (annotated p (spells t)) x = static_spelled t x p p
-  static_claim (annotated p no_type_lem) x = static_done tt
+  static_claim (annotated p no_type) x = static_done tt
 
   static_ascription : (s : Spelling) (x q p : ℕ) → Static Γ [] (spelling_meetings Γ s q) (ascription Γ s x q p)
   unfolding ascription spelling_meetings
   static_ascription (spells t) x q p = static_spelled t x q p
-  static_ascription no_type_lem x q p = static_problem 0 q
+  static_ascription no_type x q p = static_problem 0 q
 
   decl_place : (d : Decl) (ds : List Decl) → at_decl Γ d ∷ decl_places ds ≡ decl_places (d ∷ ds)
   unfolding at_decl decl_places

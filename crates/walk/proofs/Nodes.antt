@@ -8,7 +8,7 @@ use native.Mathlib.Omega.{arith}
 use Rattle.std.proofs.Math.ListN.{length-append}
 use Rattle.types.specs.Ty.{bool, int, given, Ty, base, pow, prod}
 use Rattle.formula.specs.Environment.{Entry, lacks, holds, Env}
-use Rattle.formula.specs.Tree.{Spelling, spells, no_type_lem, Decl, plain, typed, annotated, Expr, free, bound, literal, atomic, extension, truth, binary, associative, unary, quantified, ascribed, explicit, Exprs, none, more, Pred, constant, variable, relational, connective, junction, negation, quantification, simple, multiple, application, Preds, end, also, Target, Formula, expression, predicate, becomes, becomes_in, becomes_such, place, decls, exprs, targets}
+use Rattle.formula.specs.Tree.{Spelling, spells, no_type, Decl, plain, typed, annotated, Expr, free, bound, literal, atomic, extension, truth, binary, associative, unary, quantified, ascribed, explicit, Exprs, none, more, Pred, constant, variable, relational, connective, junction, negation, quantification, simple, multiple, application, Preds, end, also, Target, Formula, expression, predicate, becomes, becomes_in, becomes_such, place, decls, exprs, targets}
 use Rattle.unification.specs.Ops.{nodes}
 use Rattle.typing.specs.Equations.{Way, forward, backward, first_of, look}
 use Rattle.typing.specs.Typings.{index_excluded, notings, meeting}
@@ -205,12 +205,12 @@ module _ (Γ : Env) where
   makes-claim (plain p) x = makes-done tt tt
   makes-claim (typed p t) x = makes-meets t x p
   makes-claim (annotated p (spells t)) x = makes-spelled t x p p
-  makes-claim (annotated p no_type_lem) x = makes-done tt tt
+  makes-claim (annotated p no_type) x = makes-done tt tt
 
   makes-ascription : (s : Spelling) (x q p : ℕ) → Makes Γ (spelling_nodes Γ s) (ascription Γ s x q p) Any
   unfolding ascription spelling_nodes
   makes-ascription (spells t) x q p = makes-spelled t x q p
-  makes-ascription no_type_lem x q p = makes-problem 0 q
+  makes-ascription no_type x q p = makes-problem 0 q
 
   makes-declare : (ds : List Decl) → Makes Γ (decls_nodes Γ ds) (declare Γ ds) (Long (decls ds))
   unfolding declare decls decls_nodes

@@ -7,7 +7,7 @@ use mathlib.Core.List.{List, [], ◌∷◌}
 use native.Mathlib.Omega.{arith}
 use Rattle.types.specs.Ty.{bool, int, given, Ty, base, pow, prod}
 use Rattle.formula.specs.Environment.{Entry, lacks, holds, Env}
-use Rattle.formula.specs.Tree.{Spelling, spells, no_type_lem, Decl, plain, typed, annotated, decls}
+use Rattle.formula.specs.Tree.{Spelling, spells, no_type, Decl, plain, typed, annotated, decls}
 use Rattle.unification.specs.Good.{Assignment}
 use Rattle.typing.specs.Equations.{d}
 use Rattle.typing.specs.Rules.{Noted, DeclRule, DeclRules, Counts, Ascribes}
@@ -36,12 +36,12 @@ module _ (Γ : Env) where
   tame_claim (plain p) x = tame_done tt
   tame_claim (typed p t) x = tame_meets Γ t x p
   tame_claim (annotated p (spells t)) x = tame_spelled t x p p
-  tame_claim (annotated p no_type_lem) x = tame_done tt
+  tame_claim (annotated p no_type) x = tame_done tt
 
   pub tame_ascription : (s : Spelling) (x q p : ℕ) → Tame Γ 0 (ascription Γ s x q p)
   unfolding ascription
   tame_ascription (spells t) x q p = tame_spelled t x q p
-  tame_ascription no_type_lem x q p = tame_problem 0 q
+  tame_ascription no_type x q p = tame_problem 0 q
 
   pub tame_declare : (ds : List Decl) → Tame Γ (decls ds) (declare Γ ds)
   unfolding declare decls
@@ -85,12 +85,12 @@ module _ (Γ : Env) (σ : Assignment) (τ ρ : ℕ → Ty) where
   sound-claim (plain p) x = sound-map σ τ ρ (sound-done σ τ ρ tt) (λ k u q j e. tt)
   sound-claim (typed p t) x = sound-map σ τ ρ (sound-meets Γ σ τ ρ t x p) (λ k u q j e. sym e ∙ q)
   sound-claim (annotated p (spells t)) x = sound-map σ τ ρ (sound-spelled t x p p) (λ k u q j e. (sym e ∙ q.1, q.0))
-  sound-claim (annotated p no_type_lem) x = sound-map σ τ ρ (sound-done σ τ ρ tt) (λ k u q j e. tt)
+  sound-claim (annotated p no_type) x = sound-map σ τ ρ (sound-done σ τ ρ tt) (λ k u q j e. tt)
 
   pub sound-ascription : (s : Spelling) (x q p : ℕ) → Sound σ τ ρ (ascription Γ s x q p) (λ k u. (j : ℕ) → σ x ≡ τ j → Ascribes Γ τ ρ s j)
   unfolding ascription
   sound-ascription (spells t) x q p = sound-map σ τ ρ (sound-spelled t x q p) (λ k u q j e. (sym e ∙ q.1, q.0))
-  sound-ascription no_type_lem x q p = sound-map σ τ ρ (sound-problem σ τ ρ 0 q) (λ k u q j e. q)
+  sound-ascription no_type x q p = sound-map σ τ ρ (sound-problem σ τ ρ 0 q) (λ k u q j e. q)
 
 module _ (Γ : Env) (σ : Assignment) (τ ρ : ℕ → Ty) where
   pub sound-counted : (xs : List ℕ) (i p : ℕ) → Sound σ τ ρ (counted xs i p) (λ k x. (Δ : List Ty) → Seen σ xs Δ → Counts Γ τ ρ Δ i (σ x))
@@ -146,12 +146,12 @@ module _ (Γ : Env) (τ ρ : ℕ → Ty) (agrees : (x : ℕ) (t : Ty) → Γ x �
   complete_claim (plain p) x j w h = complete_done τ ρ tt (λ σ c. tt)
   complete_claim (typed p t) x j w h = complete_meets Γ τ ρ agrees t x p (λ σ c. h σ c ∙ w)
   complete_claim (annotated p (spells t)) x j w h = complete_spelled t x p p w.1 (λ σ c. h σ c ∙ w.0)
-  complete_claim (annotated p no_type_lem) x j w h = complete_done τ ρ tt (λ σ c. tt)
+  complete_claim (annotated p no_type) x j w h = complete_done τ ρ tt (λ σ c. tt)
 
   pub complete_ascription : {k : ℕ} {C : Assignment → Type 0} (s : Spelling) (x q p j : ℕ) → Ascribes Γ τ ρ s j → ((σ : Assignment) → C σ → σ x ≡ τ j) → Complete τ ρ k (ascription Γ s x q p) C (λ σ u. Unit {0})
   unfolding ascription
   complete_ascription (spells t) x q p j w h = complete_spelled t x q p w.1 (λ σ c. h σ c ∙ w.0)
-  complete_ascription no_type_lem x q p j w h = absurd w
+  complete_ascription no_type x q p j w h = absurd w
 
   pub complete_counted : {k : ℕ} {C : Assignment → Type 0} (xs : List ℕ) (Δ : List Ty) (i p : ℕ) (t : Ty) → Counts Γ τ ρ Δ i t → ((σ : Assignment) → C σ → Seen σ xs Δ) → Complete τ ρ k (counted xs i p) C (λ σ x. σ x ≡ t)
   unfolding counted ◌>>=◌ glue problem node slot_types done

@@ -7,7 +7,7 @@ use native.Mathlib.Omega.{arith}
 use borrow.Author.Tests.{leb-true}
 use Rattle.types.specs.Ty.{bool, int, given, Ty, base, pow, prod}
 use Rattle.formula.specs.Environment.{Entry, lacks, holds, Env}
-use Rattle.formula.specs.Tree.{Spelling, spells, no_type_lem, Decl, plain, typed, annotated, Expr, free, bound, literal, atomic, extension, truth, binary, associative, unary, quantified, ascribed, explicit, Exprs, none, more, Pred, constant, variable, relational, connective, junction, negation, quantification, simple, multiple, application, Preds, end, also, Target, Formula, expression, predicate, becomes, becomes_in, becomes_such, place}
+use Rattle.formula.specs.Tree.{Spelling, spells, no_type, Decl, plain, typed, annotated, Expr, free, bound, literal, atomic, extension, truth, binary, associative, unary, quantified, ascribed, explicit, Exprs, none, more, Pred, constant, variable, relational, connective, junction, negation, quantification, simple, multiple, application, Preds, end, also, Target, Formula, expression, predicate, becomes, becomes_in, becomes_such, place}
 use Rattle.unification.specs.Trees.{and_left, and_right}
 use Rattle.unification.specs.Ops.{nodes, Sound}
 use Rattle.typing.specs.Equations.{b, c, d, Way, forward, backward, look}
@@ -126,12 +126,12 @@ module _ (Γ : Env) where
   safe-claim (plain p) x h = safe-done tt (λ n l. tt)
   safe-claim (typed p t) x h = safe-meets t x p h
   safe-claim (annotated p (spells t)) x h = safe-spelled t x p p h
-  safe-claim (annotated p no_type_lem) x h = safe-done tt (λ n l. tt)
+  safe-claim (annotated p no_type) x h = safe-done tt (λ n l. tt)
 
   safe-ascription : {b : ℕ} (s : Spelling) (x q p : ℕ) → x < b → Safe b (ascription Γ s x q p) Nothing
   unfolding ascription
   safe-ascription (spells t) x q p h = safe-spelled t x q p h
-  safe-ascription no_type_lem x q p h = safe-problem 0 q
+  safe-ascription no_type x q p h = safe-problem 0 q
 
   safe-declare : {b : ℕ} (ds : List Decl) → Safe b (declare Γ ds) AllIn
   unfolding declare

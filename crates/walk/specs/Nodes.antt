@@ -5,7 +5,7 @@ use Rattle.std.specs.Prelude.{◌≡◌, length}
 use mathlib.Core.List.{List, [], ◌∷◌}
 use Rattle.types.specs.Ty.{Ty, base, pow, prod}
 use Rattle.formula.specs.Environment.{Entry, lacks, holds, Env}
-use Rattle.formula.specs.Tree.{Spelling, spells, no_type_lem, Decl, plain, typed, annotated, Expr, free, bound, literal, atomic, extension, truth, binary, associative, unary, quantified, ascribed, explicit, Exprs, none, more, Pred, constant, variable, relational, connective, junction, negation, quantification, simple, multiple, application, Preds, end, also, Target, Formula, expression, predicate, becomes, becomes_in, becomes_such, decls, exprs, targets}
+use Rattle.formula.specs.Tree.{Spelling, spells, no_type, Decl, plain, typed, annotated, Expr, free, bound, literal, atomic, extension, truth, binary, associative, unary, quantified, ascribed, explicit, Exprs, none, more, Pred, constant, variable, relational, connective, junction, negation, quantification, simple, multiple, application, Preds, end, also, Target, Formula, expression, predicate, becomes, becomes_in, becomes_such, decls, exprs, targets}
 use Rattle.unification.specs.Ops.{nodes}
 use Rattle.typing.specs.Equations.{look}
 use Rattle.typing.specs.Typings.{index_excluded, notings}
@@ -55,7 +55,7 @@ module _ (Γ : Env) where
 
   unfoldable pub spelling_nodes : Spelling → ℕ
   spelling_nodes (spells t) = spelled_nodes t
-  spelling_nodes no_type_lem = 0
+  spelling_nodes no_type = 0
 
   unfoldable pub decl_nodes : Decl → ℕ
   decl_nodes (plain p) = 0

@@ -5,7 +5,7 @@ use Rattle.std.specs.Prelude.{ℕ, zero, suc}
 use mathlib.Core.List.{List, [], ◌∷◌}
 use Rattle.types.specs.Ty.{Atom, bool, int, given, Ty, base, pow, prod}
 use Rattle.formula.specs.Environment.{Entry, lacks, holds, Env}
-use Rattle.formula.specs.Tree.{Spelling, spells, no_type_lem, Decl, plain, typed, annotated, Expr, free, bound, literal, atomic, extension, truth, binary, associative, unary, quantified, ascribed, explicit, Exprs, none, more, Pred, constant, variable, relational, connective, junction, negation, quantification, simple, multiple, application, Preds, end, also, Target, Formula, expression, predicate, becomes, becomes_in, becomes_such, place}
+use Rattle.formula.specs.Tree.{Spelling, spells, no_type, Decl, plain, typed, annotated, Expr, free, bound, literal, atomic, extension, truth, binary, associative, unary, quantified, ascribed, explicit, Exprs, none, more, Pred, constant, variable, relational, connective, junction, negation, quantification, simple, multiple, application, Preds, end, also, Target, Formula, expression, predicate, becomes, becomes_in, becomes_such, place}
 use Rattle.typing.specs.Equations.{Way, forward, backward, look}
 use Rattle.walk.specs.Writer.{Found, at, absent, find, Walk, W, done, ◌>>=◌, enter, own, node, unknown, boolean, integer, given_set, power, pair, same, problem, enrol}
 use Rattle.walk.specs.Scripts.{Script, perform, three, left, only, never_items, never_script, atomic_scripts, binary_scripts, unary_scripts, quantified_scripts, relational_scripts, simple_script, Gather, all_as, linked, no_script, associative_scripts}
@@ -118,7 +118,7 @@ module _ (Γ : Env) where
   claim (plain p) x = done tt
   claim (typed p t) x = meets t x p
   claim (annotated p (spells t)) x = spelled t x p p
-  claim (annotated p no_type_lem) x = done tt
+  claim (annotated p no_type) x = done tt
 
   unfoldable pub at_decl : Decl → ℕ
   at_decl (plain p) = p
@@ -134,7 +134,7 @@ module _ (Γ : Env) where
   unfoldable pub ascription : Spelling → ℕ → ℕ → ℕ → W (Unit {0})
   unfolding spelled problem
   ascription (spells t) x q p = spelled t x q p
-  ascription no_type_lem x q p = problem 0 q
+  ascription no_type x q p = problem 0 q
 
   -- an expression record other than 0C: its unit, its slot
   unfoldable pub expr : ℕ → W ℕ → W ℕ
