@@ -1,7 +1,8 @@
 -- Inference as a function of its inputs: sizes, the forms of environment and formula, the walk, the finish, the answer's room.
 -- The code's contract cites this definition and the promises speak of it. After it a reader can reckon number, place, length,
 -- steps and every byte of any call; nothing but the inputs enters.
-use Rattle.std.specs.Prelude.{ℕ, ◌+◌, ◌*◌, ◌-◌, Bool, true, false, ◌&&◌, List, ◌++◌, length, replicate, leb, eqb}
+-- (`[]` and `◌∷◌` serve must-fail/one_fixed_answer, which writes a list here)
+use Rattle.std.specs.Prelude.{ℕ, ◌+◌, ◌*◌, ◌-◌, Bool, true, false, ◌&&◌, List, [], ◌∷◌, ◌++◌, length, replicate, leb, eqb}
 use Rattle.types.specs.Limits.{max_bytes, max_names, max_capacity, book}
 use Rattle.meter.specs.Meter.{Out, spent, halt, done, broken, full, M, ◌>>=◌}
 use Rattle.formula.specs.declared.Fault.{Fault}
