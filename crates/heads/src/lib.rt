@@ -104,6 +104,7 @@ fn wide(b: u8) -> u16
 }
 
 // The byte at a place.
+#[tactic(auto, using(crate::specs::Reads::byte_reached, crate::specs::Reads::byte_ended, crate::specs::Reads::byte_beyond))]
 pub fn byte_at(s: &[u8], at: Place) -> Byte
     ensures { result ≡ byte_at (reach s.now) at }
 {
@@ -176,6 +177,7 @@ fn count_at(s: &[u8], least: u16, at: Place) -> Word
 }
 
 // A count of one byte, at least 1.
+#[tactic(auto, using(crate::proofs::Few::few_steps))]
 pub fn few_at(s: &[u8], at: Place) -> Byte
     ensures { result ≡ few_at (reach s.now) at }
 {

@@ -145,6 +145,7 @@ pub fn check_unary(op: u8) -> u8
     }
 }
 
+#[tactic(auto, using(crate::proofs::Quantified::gives_set, crate::proofs::Quantified::gives_power))]
 pub fn check_quantified(op: u8) -> u8
     ensures { result ≡ check_quantified_of op }
 {

@@ -13,12 +13,12 @@ returns-in-Missing c = entered_none _ _ _ _ (sym c.entry_at.ensures ∙ c.in-Mis
 
 pub returns-in-End : goal.returns-in-End
 unfolding entered_by
-returns-in-End c = entered_by_lem _ _ _ _ _ _ (sym c.entry_at.ensures ∙ c.in-Of.is) (omega (arith, c.if-types-i-ne0.false)) _ _ (sym c.type_at.ensures ∙ c.in-End.is) (omega arith) ∙ entered_reach _ _ _ _ c.requires.s_len_bound
+returns-in-End c = entered_by_lem _ _ _ _ _ _ (sym c.entry_at.ensures ∙ c.in-Of.is) (omega arith) _ _ (sym c.type_at.ensures ∙ c.in-End.is) (omega arith) ∙ entered_reach _ _ _ _ c.requires.s_len_bound
 
 pub returns-in-Malformed : goal.returns-in-Malformed
 unfolding entered_by
-returns-in-Malformed c = entered_by_lem _ _ _ _ _ _ (sym c.entry_at.ensures ∙ c.in-Of.is) (omega (arith, c.if-types-i-ne0.false)) _ _ (sym c.type_at.ensures ∙ c.in-Malformed.is) (omega arith) ∙ entered_reach _ _ _ _ c.requires.s_len_bound
+returns-in-Malformed c = entered_by_lem _ _ _ _ _ _ (sym c.entry_at.ensures ∙ c.in-Of.is) (omega arith) _ _ (sym c.type_at.ensures ∙ c.in-Malformed.is) (omega arith) ∙ entered_reach _ _ _ _ c.requires.s_len_bound
 
 pub returns-in-Deep : goal.returns-in-Deep
 unfolding entered_by
-returns-in-Deep c = entered_by_lem _ _ _ _ _ _ (sym c.entry_at.ensures ∙ c.in-Of.is) (omega (arith, c.if-types-i-ne0.false)) _ _ (sym c.type_at.ensures ∙ c.in-Deep.is) (omega arith) ∙ entered_reach _ _ _ _ c.requires.s_len_bound
+returns-in-Deep c = entered_by_lem _ _ _ _ _ _ (sym c.entry_at.ensures ∙ c.in-Of.is) (omega arith) _ _ (sym c.type_at.ensures ∙ c.in-Deep.is) (omega arith) ∙ entered_reach _ _ _ _ c.requires.s_len_bound

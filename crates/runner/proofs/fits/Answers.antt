@@ -1,5 +1,5 @@
 use Rattle.runner.proofs.Laws.{no_capacity, great_capacity, by-work}
-use Rattle.std.proofs.Common.{rules, lt-ltb, le-ltb, le-leb, eq-eqb, ne_eqb}
+use Rattle.std.proofs.Common.{arith, rules, lt-ltb, le-ltb, le-leb, eq-eqb, ne_eqb}
 use borrow.Author.Tests.{lt-leb}
 use Rattle.inference.specs.Infer.{sized}
 use Rattle.runner.proofs.fits.Goals as goal
@@ -23,4 +23,4 @@ pub returns-then-capacity-gt-MAX_CAPACITY : goal.returns-then-capacity-gt-MAX_CA
 returns-then-capacity-gt-MAX_CAPACITY c = great_capacity _ _ _ _ _ c.if-formula-gt-MAX_BYTES.false c.if-environment-gt-MAX_BYTES.false c.if-names-gt-MAX_NAMES.false c.if-capacity-eq0.false c.if-capacity-gt-MAX_CAPACITY.true
 
 pub returns : goal.returns
-returns c = by-work _ _ _ _ _ c.if-formula-gt-MAX_BYTES.false c.if-environment-gt-MAX_BYTES.false c.if-names-gt-MAX_NAMES.false c.if-capacity-eq0.false c.if-capacity-gt-MAX_CAPACITY.false
+returns c = by-work _ _ _ _ _ c.if-formula-gt-MAX_BYTES.false c.if-environment-gt-MAX_BYTES.false c.if-names-gt-MAX_NAMES.false c.if-capacity-eq0.false (omega arith)
