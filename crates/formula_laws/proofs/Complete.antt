@@ -1,4 +1,4 @@
--- Theorems on specs/Complete.antt.
+-- The theorems of specs/Complete.antt: `type-here`, `spelling_here`, `decl_here`, `decls-here`, `expr-here`, `exprs-here` and others.
 use Prim.Native.Nat.{ℕ, zero, suc, ◌+◌, ◌≤◌, ◌<◌}
 use native.Mathlib.Omega.{arith}
 use Rattle.std.specs.Prelude.{◌≡◌, Bool, true, eqb}

@@ -1,4 +1,4 @@
--- Theorems on specs/EnvironmentFault.antt.
+-- The theorems of specs/EnvironmentFault.antt, whose head says what they give: `environment_completes`, `environment-none`.
 use Prim.Native.Nat.{ℕ, zero, suc, ◌+◌, ◌/◌, ◌%◌, ◌<◌}
 use native.Mathlib.Omega.{arith}
 use Rattle.std.proofs.Math.Path.{◌≡◌, refl, sym, ap}

@@ -1,4 +1,4 @@
--- Theorems on specs/EnvironmentMeans.antt.
+-- The theorems of specs/EnvironmentMeans.antt, whose head says what they give: `environment-told`, `told-environment`, `environment_beyond_means`.
 use Prim.Native.Nat.{ℕ, zero, suc, ◌+◌, ◌≤◌, ◌<◌}
 use native.Mathlib.Omega.{arith}
 use Rattle.std.proofs.Math.Path.{◌≡◌, refl, ap}

@@ -1,4 +1,4 @@
--- Theorems on specs/Exact.antt.
+-- The theorems of specs/Exact.antt: `spelled-is-parsed`, `parsed-is-spelled`, `spelled_once`, `good-is-spelled`, `spelled-is-good`.
 use Rattle.std.specs.Prelude.{ℕ, ◌≤◌, ◌<◌, Bool, length, get_or}
 use native.Mathlib.Omega.{arith}
 use Rattle.std.proofs.Math.Path.{◌≡◌, refl, ap}

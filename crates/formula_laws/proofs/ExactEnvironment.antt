@@ -1,4 +1,4 @@
--- Theorems on specs/ExactEnvironment.antt.
+-- The theorems of specs/ExactEnvironment.antt: `entry-says`, `spelled-entries-parsed`, `parsed-entries-spelled`, `entries_once`, `good-is-entries`.
 use Prim.Native.Nat.{ℕ, zero, suc, ◌+◌, ◌/◌, ◌%◌, ◌≤◌, ◌<◌}
 use native.Mathlib.Omega.{arith}
 use Rattle.std.proofs.Math.Path.{◌≡◌, refl, sym, ap}

@@ -1,4 +1,4 @@
--- Theorems on specs/FaultPlace.antt.
+-- The theorems of specs/FaultPlace.antt, whose head says what they give: `fault_completes`, `faulty-none`.
 use Rattle.std.specs.Prelude.{ℕ, ◌+◌, ◌≤◌, ◌<◌, refl, Bool, List, [], ◌∷◌, ◌++◌, length, get_or, take, drop, ltb}
 use Rattle.std.proofs.Common.{arith, ap, ◌∙◌, append-nil, length-append, take_at}
 use Rattle.std.proofs.Math.Path.{◌≡◌, sym}

@@ -1,4 +1,4 @@
--- Theorems on specs/Faults.antt.
+-- The theorems of specs/Faults.antt: `expr-fails`, `pred_fails`, `formula-fails`.
 use Prim.Native.Nat.{ℕ, zero, suc, ◌+◌, ◌≤◌, ◌<◌}
 use native.Mathlib.Omega.{arith}
 use Rattle.std.specs.Prelude.{◌≡◌, Bool, get_or, ltb}

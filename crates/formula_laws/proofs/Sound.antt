@@ -1,4 +1,4 @@
--- Theorems on specs/Sound.antt.
+-- The theorems of specs/Sound.antt: `sound-type`, `sound_spelling`, `sound_decl`, `sound-decls`, `all_read`, `preds-read` and others.
 use Prim.Native.Nat.{ℕ, zero, suc, ◌+◌, ◌≤◌, ◌<◌}
 use native.Mathlib.Omega.{arith}
 use Rattle.std.proofs.Math.Path.{◌≡◌, refl, sym, ap}

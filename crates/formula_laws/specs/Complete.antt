@@ -1,4 +1,5 @@
 -- What is spelled is parsed: where the bytes spell a tree that keeps the limits and whose places are the offsets, the parse yields that tree.
+-- Theorems that rest on what must-fail edits change stand in proofs/Complete.antt.
 use Prim.Native.Nat.{ℕ, suc, ◌+◌, ◌*◌, ◌/◌, ◌%◌, ◌≤◌, ◌<◌}
 use native.Mathlib.Omega.{arith}
 use Rattle.std.specs.Prelude.{◌≡◌, Bool}

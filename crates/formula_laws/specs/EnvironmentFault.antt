@@ -1,5 +1,6 @@
 -- What the place of an environment's fault means: the bytes before it begin the spelling of entries with distinct names, limits on depth aside
 -- (`environment_completes`), and the stream itself spells no environment inside the limits (`environment-none`).
+-- Theorems that rest on what must-fail edits change stand in proofs/EnvironmentFault.antt.
 use Prim.Native.Nat.{ℕ, ◌≤◌, ◌<◌}
 use Rattle.std.proofs.Math.Path.{◌≡◌}
 use Rattle.std.specs.Prelude.{get_or}

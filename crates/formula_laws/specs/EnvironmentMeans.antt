@@ -2,6 +2,7 @@
 -- `EntryFault`: no entry stands there; or its name has an entry already; or its type has a malformed record, or a well-formed one at depth 65.
 -- Only the last is told as a limit. `environment-told` and `told-environment` say it exactly: an environment that is not too long has the fault of the
 -- entry at which it stops, and no other (`environment_beyond_means` reads the limit off).
+-- Theorems that rest on what must-fail edits change stand in proofs/EnvironmentMeans.antt.
 use Prim.Native.Nat.{ℕ, ◌<◌}
 use Rattle.std.proofs.Math.Path.{◌≡◌}
 use Rattle.std.specs.Prelude.{◌≢◌, get_or, drop}

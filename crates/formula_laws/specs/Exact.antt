@@ -1,5 +1,6 @@
 -- A stream is accepted exactly if it is the spelling of a formula inside the limits; that formula is unique, and its places are the offsets of its records.
 -- `parse_of` yields it, and `check_formula` answers Good exactly there: its contract is `form_of (parse_of names s)`.
+-- Theorems that rest on what must-fail edits change stand in proofs/Exact.antt.
 use Rattle.std.specs.Prelude.{ℕ, ◌≤◌, length}
 use Rattle.std.proofs.Math.Path.{◌≡◌}
 use mathlib.Core.List.{List}

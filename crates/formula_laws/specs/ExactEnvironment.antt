@@ -1,4 +1,5 @@
 -- An environment is accepted exactly if its bytes are the spelling of entries with distinct names inside the limits; those entries are unique.
+-- Theorems that rest on what must-fail edits change stand in proofs/ExactEnvironment.antt.
 use Prim.Native.Nat.{ℕ, ◌/◌, ◌%◌, ◌≤◌, ◌<◌}
 use native.Mathlib.Omega.{arith}
 use Rattle.std.proofs.Math.Path.{◌≡◌, refl, sym}

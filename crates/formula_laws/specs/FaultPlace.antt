@@ -1,6 +1,7 @@
 -- What the place of a fault means, for a whole stream: the bytes before it begin a well-formed formula (`fault_completes`), limits aside,
 -- and the stream itself spells no formula inside the limits (`faulty-none`). So the fault is no earlier than its place.
 -- Where no name is known no assignment can be completed, so a name is asked for where the first byte is 0x30 or above.
+-- Theorems that rest on what must-fail edits change stand in proofs/FaultPlace.antt.
 use Rattle.std.specs.Prelude.{ℕ, ◌≤◌, List, ◌++◌, length, take}
 use Rattle.std.proofs.Math.Path.{◌≡◌}
 use Rattle.formula.specs.declared.Fault.{Fault}

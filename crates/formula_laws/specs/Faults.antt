@@ -1,6 +1,7 @@
 -- What the place of a fault means. Everything before it can be completed: the bytes from the start up to it begin the spelling of a well-formed
 -- formula, limits aside (`fault_completes`). So no byte before the place is at fault; with the record there, or where none stands, the stream is refused.
 -- (An assignment's targets need a name: where none is known, no assignment can be completed. So a name is asked for where the first byte is 0x30 or above.)
+-- Theorems that rest on what must-fail edits change stand in proofs/Faults.antt.
 use Prim.Native.Nat.{ℕ, zero, suc, ◌<◌}
 use native.Mathlib.Omega.{arith}
 use Rattle.std.specs.Prelude.{◌≡◌, Bool, get_or}

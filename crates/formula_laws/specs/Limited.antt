@@ -1,5 +1,6 @@
 -- The limits by themselves: every record at depth 64 or less, at most 64 declarations open at once, at most 1,024 slots (d and o as in Fits).
 -- Fits is exactly Shape and the limits: `shape-fits`, `fits-limited` and `fits-formula`. So Shape is what is well formed, limits aside.
+-- Theorems that rest on what must-fail edits change stand in proofs/Limited.antt.
 use Rattle.std.specs.Prelude.{ℕ, suc, ◌+◌, ◌≤◌, List, [], ◌∷◌}
 use Rattle.types.specs.Ty as T
 use Rattle.types.specs.Ty.{Ty}

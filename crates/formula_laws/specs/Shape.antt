@@ -1,5 +1,6 @@
 -- The well-formed trees, limits aside: operators, names and counts in range, no 0C under 0C.
 -- A tree that keeps the limits is well formed (`fits-shape`).
+-- Theorems that rest on what must-fail edits change stand in proofs/Shape.antt.
 use Rattle.std.specs.Prelude.{ℕ, ◌≤◌, ◌<◌, ◌≡◌, true, List, [], ◌∷◌}
 use Rattle.types.specs.Ty as T
 use Rattle.formula.specs.Tree.{Spelling, spells, no_type, Decl, plain, typed, annotated, Expr, free, bound, literal, atomic, extension, truth, binary, associative, unary, quantified, ascribed, explicit, Exprs, none, more, Pred, constant, variable, relational, connective, junction, negation, quantification, simple, multiple, application, Preds, end, also, Target, Formula, expression, predicate, becomes, becomes_in, becomes_such, decls, exprs, preds, targets, pairs}

@@ -1,4 +1,5 @@
 -- What is parsed is spelled: a tree that the parse yields is spelled by the bytes it read, its places are the offsets of its records, and it keeps the limits.
+-- Theorems that rest on what must-fail edits change stand in proofs/Sound.antt.
 use Prim.Native.Nat.{ℕ, zero, suc, ◌+◌, ◌≤◌, ◌<◌}
 use native.Mathlib.Omega.{arith}
 use Rattle.std.proofs.Math.Path.{◌≡◌, refl, ap}

@@ -1,4 +1,4 @@
--- Theorems on specs/AnyDirection.antt.
+-- The theorems of specs/AnyDirection.antt, whose head says what they give: `outcome-found`.
 use Prim.Native.Nat.{ℕ, ◌+◌, ◌<◌}
 use Rattle.std.specs.Prelude.{◌≡◌, refl, List, [], ◌∷◌, ◌++◌}
 use Rattle.std.proofs.Math.Path.{sym, ap, subst}

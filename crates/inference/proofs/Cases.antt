@@ -1,4 +1,4 @@
--- Theorems on specs/Cases.antt.
+-- The theorems of specs/Cases.antt: `auditors_table`, `two-unknowns-answered`.
 use Rattle.std.specs.Prelude.{refl, [], ◌∷◌}
 use Rattle.meter.specs.Meter.{ret, fail, tick, on, ◌>>=◌, at_e, reading, mapped, iter, run, forget_e, forget}
 use Rattle.types.specs.Ty.{spell_atom, spell}

@@ -1,4 +1,4 @@
--- Theorems on specs/Conclude.antt.
+-- The theorems of specs/Conclude.antt: `test-exact`, `ask-exact`, `finish-exact`, `finished`, `concluded_wider`, `concluded-exact` and others.
 use Rattle.std.specs.Prelude.{ℕ, ◌+◌, ◌*◌, ◌-◌, ◌≤◌, ◌<◌, ◌≡◌, Bool, true, false}
 use Rattle.std.proofs.Math.Path.{refl, ap}
 use Rattle.std.proofs.Common.{sym, ◌∙◌, subst, arith}

@@ -1,4 +1,4 @@
--- Theorems on specs/Numbers.antt.
+-- The theorems of specs/Numbers.antt, whose head says what they give: `rows`, `number_2`, `number_8`.
 use Rattle.std.specs.Prelude.{ℕ, ◌-◌, ◌≤◌, ◌<◌, ◌≢◌, ◌↔◌, Bool, List, ◌++◌, length}
 use Rattle.std.proofs.Math.Path.{◌≡◌, refl, sym, ap, ap₂, subst}
 use Rattle.std.proofs.Common.{◌∙◌, length-append, le-leb, eq-eqb, ne_eqb}

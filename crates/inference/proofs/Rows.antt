@@ -1,4 +1,4 @@
--- Theorems on specs/Rows.antt.
+-- The theorems of specs/Rows.antt: `slots-inside`, `found-asked`, `asked-found`.
 use Rattle.std.specs.Prelude.{ℕ, ◌<◌, Bool}
 use Rattle.std.proofs.Math.Path.{◌≡◌, refl, subst}
 use Rattle.std.proofs.Common.{sym, ◌∙◌, ap, arith, eqb-true, eq-eqb}

@@ -1,4 +1,4 @@
--- Theorems on specs/Sizes.antt.
+-- The theorems of specs/Sizes.antt, whose head says what they give: `sized-holds`.
 use Rattle.std.specs.Prelude.{ℕ, ◌≡◌, refl, ◌↔◌, Bool, true, ◌&&◌}
 use Rattle.std.proofs.Common.{arith, leb-true, le-leb}
 use Rattle.unification.specs.Trees.{and_left, and_right}

@@ -3,6 +3,7 @@
 -- `outcome-found`: let a formula's operations be run by the unifier's rules in any direction, that of the Rust (which binds the left one) or another, and let the
 -- finish be asked over the arena that this leaves. From some budget on it answers, and what it answers is `outcome`, the one that `infer_of` gives: the same types, or
 -- the same problems in the same order at the same places. `outcome-run`: there is such a run. (What may differ is the price.)
+-- Theorems that rest on what must-fail edits change stand in proofs/AnyDirection.antt.
 use Prim.Native.Nat.{◌+◌, ◌*◌}
 use Rattle.std.proofs.Common.{arith}
 use Rattle.meter.specs.Meter.{Exact}

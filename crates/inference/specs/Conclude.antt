@@ -2,6 +2,7 @@
 -- Where they do not fit, the capacity is used up from some budget on, and below it the budget is spent.
 -- After this file a reader knows when the walk and the finish end by 6, by 7, or with an outcome; that no reference of theirs leaves
 -- the arena, so that the layer's own 2 never comes up; and what the outcome says of the assignments that the arena admits.
+-- Theorems that rest on what must-fail edits change stand in proofs/Conclude.antt.
 use Rattle.std.specs.Prelude.{ℕ, ◌+◌, ◌*◌, ◌≤◌, ◌<◌, ◌≡◌, length}
 use Rattle.std.proofs.Common.{arith}
 use mathlib.Core.List.{List, [], ◌∷◌, ◌++◌}

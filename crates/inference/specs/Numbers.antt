@@ -4,6 +4,7 @@
 -- file a reader may believe that inference answers a exactly if `Row a` (`rows`): number 2 exactly if a size is wrong (`number_2`),
 -- 8 exactly if the finished answer is longer than the output (`number_8`), 6 and 7 as the walk meets them (`nodes_fit`, `nodes_full`);
 -- and of output and work: untouched after 2, the answer's bytes and zeros after any other number.
+-- Theorems that rest on what must-fail edits change stand in proofs/Numbers.antt.
 use Rattle.std.specs.Prelude.{ℕ, ◌-◌, ◌≤◌, ◌<◌, List, length}
 use Rattle.std.proofs.Math.Path.{◌≡◌}
 use Rattle.meter.specs.Meter.{Out, spent, halt, done, full}

@@ -1,5 +1,6 @@
 -- The names that are tested are the names that the walk finds: what holds of every name found in the walk's row that the
 -- environment lacks holds of every question about names, and the other way.
+-- Theorems that rest on what must-fail edits change stand in proofs/Rows.antt.
 use Rattle.std.specs.Prelude.{ℕ}
 use Rattle.std.proofs.Math.Path.{◌≡◌}
 use Rattle.std.proofs.Math.Bool.{false}

@@ -1,4 +1,5 @@
 -- Row 2 of the table: the sizes. `sized-holds` reads the test as its six conditions; a stream inside them is never too long to be read.
+-- Theorems that rest on what must-fail edits change stand in proofs/Sizes.antt.
 use Rattle.std.specs.Prelude.{ℕ, zero, suc, ◌+◌, ◌*◌, ◌≤◌, ◌≡◌, Bool, true, false, List, [], ◌∷◌, ◌++◌, ltb, length}
 use Rattle.std.proofs.Common.{sym, ◌∙◌, ap, subst, le-ltb}
 use Rattle.types.specs.declared.Place.{Place}

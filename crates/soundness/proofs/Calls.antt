@@ -1,4 +1,4 @@
--- Theorems on specs/Calls.antt.
+-- The theorems of specs/Calls.antt: `outcome-verdict`.
 use Rattle.std.specs.Prelude.{ℕ, ◌≤◌, List}
 use Rattle.formula.specs.Tree.{Formula}
 use Rattle.formula.specs.Environment.{Entries, lookup}

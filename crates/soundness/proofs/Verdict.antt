@@ -1,4 +1,4 @@
--- Theorems on specs/Verdict.antt.
+-- The theorems of specs/Verdict.antt: `verdict`.
 use Rattle.std.specs.Prelude.{ℕ, ◌+◌, ◌*◌, ◌<◌, ◌≡◌, ◌⊎◌, Bool, true, false}
 use Rattle.std.proofs.Math.Path.{refl, sym, subst}
 use Rattle.std.proofs.Common.{◌∙◌, ap, arith}

@@ -1,5 +1,6 @@
 -- Calls whose bytes are well formed. After this file a reader knows what `Spells` means, and that the answer of such a call, where it
 -- is not refused, is the outcome of the very entries and tree that the bytes spell, at the price of that outcome.
+-- Theorems that rest on what must-fail edits change stand in proofs/Calls.antt.
 use Rattle.std.specs.Prelude.{ℕ, ◌≤◌, ◌<◌, ◌≡◌, List, length, get_or}
 use Rattle.std.proofs.Common.{sym, ◌∙◌, ap₂}
 use Rattle.formula.specs.Tree.{Formula}

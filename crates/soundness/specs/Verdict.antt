@@ -1,6 +1,7 @@
 -- What the outcome of a formula says of its typings: one, several or none.
 -- After this file a reader may believe that the finish, over the arena that the walk leaves, tells the three apart, and that the
 -- types it hands out are the typing's, in the order in which a typing is told.
+-- Theorems that rest on what must-fail edits change stand in proofs/Verdict.antt.
 use Rattle.std.specs.Prelude.{ℕ, ◌≡◌, ◌⊎◌}
 use mathlib.Core.List.{List, []}
 use Rattle.types.specs.Ty.{Ty}

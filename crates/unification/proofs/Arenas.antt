@@ -1,4 +1,4 @@
--- Theorems on specs/Arenas.antt.
+-- The theorems of specs/Arenas.antt, whose head says what they give: `bool`.
 use Rattle.std.specs.Prelude.{ℕ, ◌≡◌, refl, [], ◌∷◌, ◌++◌}
 use Rattle.meter.specs.Meter.{spent, halt, done, broken}
 use Rattle.unification.specs.Arena.{Words, merge_at, left_bound, unified, mismatch, circular, unify}

@@ -1,4 +1,4 @@
--- Theorems on specs/BothWays.antt.
+-- The theorems of specs/BothWays.antt: `by_rank`, `as_the_rust`.
 use Rattle.std.specs.Prelude.{ℕ, ◌≡◌, refl, false}
 use Rattle.std.proofs.Common.{arith}
 use Rattle.unification.specs.Arena.{free, node_at, merge_at, left_bound, meet, unified}

@@ -1,4 +1,4 @@
--- Theorems on specs/ByRule.antt.
+-- The theorems of specs/ByRule.antt, whose head says what they give: `tells-run`, `run-tells`.
 use Prim.Native.Nat.{ℕ, zero, suc, ◌+◌, ◌<◌}
 use Rattle.std.specs.Prelude.{◌≡◌, ◌≢◌, Bool, eqb}
 use Rattle.std.proofs.Math.Path.{refl, ap, subst}

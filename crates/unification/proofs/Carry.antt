@@ -1,4 +1,4 @@
--- Theorems on specs/Carry.antt.
+-- The theorems of specs/Carry.antt, whose head says what they give: `unify_carries`.
 use Prim.Native.Nat.{ℕ, zero, suc, ◌<◌}
 use Rattle.std.specs.Prelude.{◌≡◌, ◌≢◌, Bool, eqb}
 use Rattle.std.proofs.Math.Path.{refl}

@@ -1,4 +1,4 @@
--- Theorems on specs/Code.antt.
+-- The theorems of specs/Code.antt: `assign_circular`, `assign-bound`, `assign-spent`, `assign_broken`, `unify-spent`, `unify_broken` and others.
 use Prim.Native.Nat.{ℕ, ◌≤◌}
 use Rattle.std.proofs.Math.Path.{◌≡◌}
 use Rattle.std.proofs.Common.{◌∙◌}

@@ -1,4 +1,4 @@
--- Theorems on specs/Direction.antt.
+-- The theorems of specs/Direction.antt, whose head says what they give: `tells-outcome`, `follows_suit`.
 use Rattle.std.specs.Prelude.{ℕ, zero, suc, ◌+◌, ◌*◌, ◌≤◌, ◌<◌, refl, ◌≢◌, Bool, true, false, eqb, length}
 use Rattle.std.proofs.Math.Path.{◌≡◌, ap}
 use Rattle.std.proofs.Common.{sym, ◌∙◌, ap₂, subst, eq-eqb, ne_eqb}

@@ -1,4 +1,5 @@
--- Theorems on specs/Exec.antt.
+-- The theorems of specs/Exec.antt, whose head says what they give: `exec_nil`, `exec_unpaid`, `exec-paid`, `exec-made`, `exec_no_room`,
+-- `exec-compared`, `exec-listed`, `exec-counts`.
 use Rattle.std.specs.Prelude.{ℕ, zero, suc, ◌+◌, ◌≤◌, ◌<◌, ◌≡◌, Bool, List, [], ◌∷◌}
 use Rattle.std.proofs.Math.Path.{refl, ap}
 use Rattle.std.proofs.Common.{sym, subst, arith, lt-ltb, le-ltb}

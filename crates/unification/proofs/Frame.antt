@@ -1,4 +1,4 @@
--- Theorems on specs/Frame.antt.
+-- The theorems of specs/Frame.antt, whose head says what they give: `unify-alike`, `exec-alike`, `unify-beside`, `exec-beside`.
 use Prim.Native.Nat.{ℕ, zero, suc, ◌+◌, ◌*◌, ◌-◌, ◌≤◌, ◌<◌}
 use Rattle.std.proofs.Math.Path.{◌≡◌, refl, ap, ap₂, subst}
 use Rattle.std.proofs.Common.{sym, ◌∙◌, inl, inr, arith, length-append, length-set, get_or-set_other, get_or-append-add, ext_get_or, lt-ltb, le-ltb}

@@ -1,4 +1,4 @@
--- Theorems on specs/Good.antt.
+-- The theorems of specs/Good.antt: `word-other`, `length-bind`, `node-bind-same`, `node-bind-other`.
 use Rattle.std.specs.Prelude.{ℕ, ◌+◌, ◌*◌, ◌≤◌, ◌<◌, ◌≡◌, ◌≢◌, ◌&&◌, ltb, length, get_or, set}
 use Rattle.std.proofs.Math.Path.{refl, ap}
 use Rattle.std.proofs.Common.{◌∙◌}

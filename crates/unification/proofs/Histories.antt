@@ -1,4 +1,4 @@
--- Theorems on specs/Histories.antt.
+-- The theorems of specs/Histories.antt, whose head says what they give: `build-reached`, `relate-reached`, `lift-reached`.
 use Prim.Native.Nat.{ℕ, zero, suc, ◌+◌, ◌*◌, ◌≤◌}
 use Rattle.std.specs.Prelude.{◌≡◌, Bool, ◌&&◌, List, length, drop}
 use Rattle.std.proofs.Math.Path.{refl, subst}

@@ -1,4 +1,4 @@
--- Theorems on specs/History.antt.
+-- The theorems of specs/History.antt, whose head says what they give: `asked_admitted`, `admitted_asked`, `failed-none`.
 use Rattle.std.specs.Prelude.{ℕ, suc, ◌*◌, ◌≤◌, ◌<◌, ◌≡◌, length}
 use Rattle.std.proofs.Common.{sym, ◌∙◌, ap, subst, inl, inr, arith}
 use Rattle.std.proofs.Math.Decide.{dec_lt}

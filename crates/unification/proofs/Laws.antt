@@ -1,4 +1,4 @@
--- Theorems on specs/Laws.antt.
+-- The theorems of specs/Laws.antt, whose head says what they give: `unify_success`, `unify_exactly`, `unknowns-free`, `solved-law`, `read-law`.
 use Rattle.std.specs.Prelude.{ℕ, zero, suc, ◌+◌, ◌*◌, ◌≤◌, ◌<◌, ◌≡◌, refl, ◌≢◌, ◌↔◌, ◌⊎◌, Bool, true, false, length}
 use Rattle.std.proofs.Common.{sym, ◌∙◌, ap, subst, inl, inr, arith}
 use Rattle.std.proofs.Math.Decide.{dec_lt}

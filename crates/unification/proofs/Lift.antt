@@ -1,4 +1,4 @@
--- Theorems on specs/Lift.antt.
+-- The theorems of specs/Lift.antt, whose head says what they give: `lift-law`.
 use Prim.Native.Nat.{ℕ, zero, suc, ◌+◌, ◌*◌, ◌≤◌, ◌<◌}
 use Rattle.std.proofs.Math.Path.{◌≡◌, refl, sym, ap, subst}
 use Rattle.std.proofs.Common.{◌∙◌}

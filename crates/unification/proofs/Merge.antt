@@ -1,4 +1,4 @@
--- Theorems on specs/Merge.antt.
+-- The theorems of specs/Merge.antt, whose head says what they give: `merged`.
 use Prim.Native.Nat.{ℕ, suc, ◌+◌, ◌*◌, ◌≤◌, ◌<◌}
 use Rattle.std.specs.Prelude.{◌≡◌, ◌≢◌, Bool, ◌&&◌, eqb, length, set}
 use Rattle.std.proofs.Math.Path.{refl, ap}

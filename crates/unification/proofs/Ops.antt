@@ -1,4 +1,4 @@
--- Theorems on specs/Ops.antt.
+-- The theorems of specs/Ops.antt, whose head says what they give: `exec-exact`, `exec_full`, `exec_metered`, `exec-append`.
 use Prim.Native.Nat.{ℕ, suc, ◌+◌, ◌≤◌, ◌<◌}
 use Rattle.std.specs.Prelude.{◌≡◌, refl, ◌⊎◌, Bool, true, false, ltb}
 use Rattle.std.proofs.Common.{sym, ◌∙◌, ap₂, inl, inr, lt-ltb, le-ltb}

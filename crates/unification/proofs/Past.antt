@@ -1,4 +1,4 @@
--- Theorems on specs/Past.antt.
+-- The theorems of specs/Past.antt, whose head says what they give: `reached-alike`, `retold`.
 use Prim.Native.Nat.{ℕ, suc, ◌+◌, ◌*◌, ◌-◌, ◌≤◌, ◌<◌}
 use Rattle.std.specs.Prelude.{◌≡◌, ◌++◌, take, drop}
 use Rattle.std.proofs.Math.Path.{sym, ap}

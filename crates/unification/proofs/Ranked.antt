@@ -1,4 +1,4 @@
--- Theorems on specs/Ranked.antt.
+-- The theorems of specs/Ranked.antt, whose head says what they give: `merge_ranked`, `reached-ranked`, `ranked-after`.
 use Prim.Native.Nat.{ℕ, zero, suc, ◌+◌, ◌*◌, ◌^◌, ◌≤◌, ◌<◌}
 use Rattle.std.specs.Prelude.{◌≡◌, ◌≢◌, Bool, ◌&&◌, eqb, length, get_or, set}
 use Rattle.std.proofs.Math.Path.{refl, ap, subst}

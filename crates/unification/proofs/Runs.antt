@@ -1,4 +1,4 @@
--- Theorems on specs/Runs.antt.
+-- The theorems of specs/Runs.antt, whose head says what they give: `some-run`, `every-run`.
 use Prim.Native.Nat.{ℕ, zero, suc, ◌+◌, ◌*◌, ◌≤◌, ◌<◌}
 use Rattle.std.specs.Prelude.{◌≡◌, refl, List, [], ◌∷◌, length}
 use Rattle.std.proofs.Common.{sym, ◌∙◌, subst}

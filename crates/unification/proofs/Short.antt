@@ -1,4 +1,4 @@
--- Theorems on specs/Short.antt.
+-- The theorems of specs/Short.antt, whose head says what they give: `resolve-short`, `exec-short`, `exec-short-within`.
 use Prim.Native.Nat.{ℕ, zero, suc, ◌+◌, ◌*◌, ◌^◌, ◌≤◌, ◌<◌}
 use Rattle.std.proofs.Math.Path.{◌≡◌, refl}
 use Rattle.std.proofs.Common.{sym, ◌∙◌, ap, subst}

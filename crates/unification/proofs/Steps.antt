@@ -1,4 +1,4 @@
--- Theorems on specs/Steps.antt.
+-- The theorems of specs/Steps.antt: `unify_metered`, `unify_eq`.
 use Rattle.std.specs.Prelude.{ℕ, ◌≡◌, Bool, true, false, eqb}
 use Rattle.meter.specs.Meter.{M, Metered, Paid, metered_ret, metered_tick, metered_bind, metered_reading, Agree, agree_refl, agree-tick, agree-bind, run_metered, run_eq}
 use Rattle.unification.specs.Arena.{node_at, Verdict, unified, mismatch, circular, Meeting, bindLeft, bindRight, agree, clash, down, both, meet, Words, Pair, Answer, bound, assign, next, meeting, unify_at, unify_f, unify}

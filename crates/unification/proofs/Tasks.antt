@@ -1,4 +1,4 @@
--- Theorems on specs/Tasks.antt.
+-- The theorems of specs/Tasks.antt, whose head says what they give: `unify_tasks`.
 use Prim.Native.Nat.{ℕ}
 use Rattle.std.proofs.Math.Path.{◌≡◌, refl, sym, ap, fun_ext}
 use Rattle.std.proofs.Common.{◌∙◌}

@@ -1,4 +1,4 @@
--- Theorems on specs/Unifies.antt.
+-- The theorems of specs/Unifies.antt, whose head says what they give: `unify-exact`.
 use Rattle.std.specs.Prelude.{ℕ, zero, suc, ◌*◌, ◌≤◌, ◌<◌, ◌≢◌, Bool, eqb, length}
 use Rattle.std.proofs.Math.Path.{◌≡◌, refl, sym, ap, subst}
 use Rattle.std.proofs.Common.{◌∙◌, arith}

@@ -1,5 +1,6 @@
 -- One comparison by the rules in both directions, computed: two unknowns, the left one of rank 1. This unifier binds the right one, the Rust the left one, for the
 -- same units. So the directions that `Direction` and `Runs` speak of are two.
+-- Theorems that rest on what must-fail edits change stand in proofs/BothWays.antt.
 use Rattle.std.specs.Prelude.{[], ◌∷◌}
 use Rattle.unification.specs.Arena.{Words}
 

@@ -6,6 +6,7 @@
 -- is `follows_suit` in `Direction`.
 -- `tells-run`: at a budget of its price or more a derivation is what `unify` answers, with what is over left; below its price the budget is spent.
 -- `run-tells`: whatever `unify` answers or refuses, on any words, has a derivation. So the rules say exactly which answer is given and which refusal.
+-- Theorems that rest on what must-fail edits change stand in proofs/ByRule.antt.
 use Prim.Native.Nat.{ℕ, zero, suc, ◌+◌, ◌-◌, ◌≤◌, ◌<◌}
 use Rattle.std.specs.Prelude.{◌≡◌, ◌≢◌, Bool, eqb}
 use Rattle.std.proofs.Math.Path.{refl, ap, subst}

@@ -5,6 +5,7 @@
 -- earlier assignments that equate the two references, and its failure is given only where none does. `follows_suit`: from arenas that admit the same assignments,
 -- what the rules derive by one direction they derive by every other, with the same verdict, mismatch and circularity told apart, and arenas that admit the same
 -- again. Only the price may differ.
+-- Theorems that rest on what must-fail edits change stand in proofs/Direction.antt.
 use Rattle.std.specs.Prelude.{ℕ, ◌*◌, ◌≤◌, ◌<◌, length}
 use Rattle.std.proofs.Math.Path.{◌≡◌}
 use Rattle.unification.specs.Arena.{Node, Words, node_at, Direction, Verdict}

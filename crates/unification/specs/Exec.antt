@@ -3,6 +3,7 @@
 -- `exec_nil`, `exec_unpaid`, `exec-paid`, `exec-made`, `exec_no_room`, `exec-compared`, `exec-listed`: what a list does first.
 -- `grow-`, `learn-`, `complain-`, `noted-`: what stands on the bench after a node, a comparison, a problem. `exec-counts`: how many nodes
 -- stand after a list that ran to its end. With these nobody has to open `exec` or what it is made of.
+-- Theorems that rest on what must-fail edits change stand in proofs/Exec.antt.
 use Rattle.std.specs.Prelude.{ℕ, suc, ◌+◌, ◌≡◌, List, [], ◌∷◌, ◌++◌}
 use Rattle.std.proofs.Math.Path.{refl}
 use Rattle.meter.specs.Meter.{Out, spent, halt, done}

@@ -3,6 +3,7 @@
 -- `build-reached`: a maker of one node makes it, or the words stand. `relate-reached`, `lift-reached`: a relation and a type that is lifted are several nodes. Where one of
 -- them is refused, those before it have been written past the caller's count, and this count stays; the caller's arena is then reached again (`Again`): its counted words
 -- are as they were, and what lies past them is no part of its history (`retold` of Past.antt).
+-- Theorems that rest on what must-fail edits change stand in proofs/Histories.antt.
 use Prim.Native.Nat.{ℕ, suc, ◌+◌, ◌≤◌}
 use Rattle.std.specs.Prelude.{◌≡◌, length}
 use Rattle.meter.specs.Meter.{Out, spent, halt, done}

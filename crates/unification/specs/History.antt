@@ -1,6 +1,7 @@
 -- A whole history of calls, failed, spent and refused ones included: what it asks of an assignment (`Asks`), and what the arena admits after it.
 -- Whatever happened, what was asked is admitted (`asked_admitted`); if every comparison succeeded, nothing else is (`admitted_asked`); if one failed, nothing
 -- meets what was asked (`failed-none`).
+-- Theorems that rest on what must-fail edits change stand in proofs/History.antt.
 use Rattle.std.specs.Prelude.{ℕ, ◌<◌, ◌≡◌, refl, ◌≢◌, ◌⊎◌}
 use Rattle.meter.specs.Meter.{done}
 use Rattle.unification.specs.Arena.{decode, Words, Verdict, unified, Answer, unify}

@@ -3,6 +3,7 @@
 -- Of any words: `*-steps` and `*-refused`, least budgets of answers and of refusals. Of every arena reached from the empty one by making nodes and
 -- comparing references, whatever the outcomes (`Reached`): `unify_success` and `unify_exactly`, what a comparison means for the assignments that the arena
 -- admits; `unknowns-free`, every valuation of the unknowns extends; `solved-law` and `read-law`, solved references are those on which all assignments agree.
+-- Theorems that rest on what must-fail edits change stand in proofs/Laws.antt.
 use Rattle.std.specs.Prelude.{ℕ, suc, ◌+◌, ◌*◌, ◌≤◌, ◌≡◌, Bool, length}
 use Rattle.meter.specs.Meter.{Out, spent, halt, done, Why, Costs, done_costs, Halts, halt_costs}
 use Rattle.unification.specs.Arena.{Words, U, node_at, resolve, occurs, solved, Answer, unify}

@@ -2,6 +2,7 @@
 --
 -- `lift_of` reads the bytes as `type_at` of crate `types` reads them, and makes nodes as it goes; it is total on any bytes. `lift-law`: where the type t stands at a place,
 -- lifting there is running the operations of t (`lift_ops`): the same nodes, and full just where they are.
+-- Theorems that rest on what must-fail edits change stand in proofs/Lift.antt.
 use Prim.Native.Nat.{ℕ, zero, suc, ◌+◌, ◌-◌, ◌*◌, ◌≤◌, ◌<◌}
 use Rattle.std.proofs.Math.Path.{◌≡◌, refl, ap, subst}
 use Rattle.std.proofs.Common.{◌∙◌}

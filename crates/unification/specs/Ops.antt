@@ -1,6 +1,7 @@
 -- Lists of operations, run over an arena: the seam to a walk, which makes and compares the same things whatever unification answers.
 -- `exec-exact`: a list whose nodes fit ends, at a price, and then either nothing is listed and the arena admits just what meets the list, or something is
 -- listed and nothing meets it. `exec_full`: where the capacity ends inside the list, it halts full. `exec_metered`, `exec-append`: least budgets, and parts.
+-- Theorems that rest on what must-fail edits change stand in proofs/Ops.antt.
 use Prim.Native.Nat.{ℕ, suc, ◌+◌, ◌*◌, ◌≤◌, ◌<◌}
 use Rattle.std.specs.Prelude.{◌≡◌, ◌⊎◌, ltb}
 use Rattle.std.proofs.Common.{sym}

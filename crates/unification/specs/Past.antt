@@ -2,6 +2,7 @@
 --
 -- `reached-alike`: words that agree on its nodes with those of a reached arena are reached too. `retold`: by a history that asks the same of an assignment (`asks`),
 -- in which every comparison succeeded if every one did (`succeeds`), and one failed if one did (`fails`).
+-- Theorems that rest on what must-fail edits change stand in proofs/Past.antt.
 use Prim.Native.Nat.{ℕ}
 use Rattle.std.specs.Prelude.{◌↔◌}
 use Rattle.unification.specs.Arena.{Words}

@@ -3,6 +3,7 @@
 -- `Ranked`: along a binding from unknown to unknown the rank rises, and an unknown of rank r stands for 2^r of the n nodes or more. The empty arena is ranked, a node
 -- that is made keeps it (an unknown is made with rank 0), and so does every comparison, answered, refused or spent (`merge_ranked`, carried through by
 -- `unify_carries`): `reached-ranked` of every arena reached by public calls, `ranked-after` after a list of operations.
+-- Theorems that rest on what must-fail edits change stand in proofs/Ranked.antt.
 use Prim.Native.Nat.{ℕ, suc, ◌+◌, ◌*◌, ◌^◌, ◌≤◌, ◌<◌}
 use Rattle.std.specs.Prelude.{◌≡◌, eqb, length}
 use Rattle.std.proofs.Math.Path.{refl, ap, subst}

@@ -3,6 +3,7 @@
 -- `some-run`, `every-run`: where the list is run to its end (`exec`), it runs by every direction, the Rust's among them; and every run of it, in whichever direction,
 -- lists the same problems in the same order and ends in an arena that admits the same assignments. So what is listed, which references are
 -- solved and what their types are do not depend on which of two unknowns is bound.
+-- Theorems that rest on what must-fail edits change stand in proofs/Runs.antt.
 use Prim.Native.Nat.{ℕ}
 use Rattle.std.specs.Prelude.{List, [], ◌∷◌}
 use Rattle.unification.specs.Arena.{Words, Direction, Verdict}

@@ -3,6 +3,7 @@
 -- In a ranked arena of n nodes c bindings are followed from a reference only where 2^c < 2 * n (`follows_short`): with 2,048 nodes never more than 11, however long the
 -- chain of equalities. `resolve-short`: so in every arena reached by public calls. `exec-short`, `exec-short-within`: after every list of operations, and at every point
 -- of a comparison that follows it.
+-- Theorems that rest on what must-fail edits change stand in proofs/Short.antt.
 use Prim.Native.Nat.{ℕ, suc, ◌+◌, ◌*◌, ◌^◌, ◌<◌}
 use Rattle.std.proofs.Math.Path.{◌≡◌, refl}
 use Rattle.std.proofs.Common.{sym, ap, subst}

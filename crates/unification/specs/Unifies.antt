@@ -1,6 +1,7 @@
 -- Over an arena in solved form `unify` ends, and at every budget what stands is in solved form again: `unify-exact`.
 -- `Kept` says what stands in any outcome (no assignment is gained; none that obeys the equation is lost); `Judges` what each verdict means: a success admits only
 -- assignments that obey the equation, a failure is given only where none does.
+-- Theorems that rest on what must-fail edits change stand in proofs/Unifies.antt.
 use Rattle.std.specs.Prelude.{ℕ, ◌*◌, ◌≤◌, ◌<◌, ◌≢◌, length}
 use Rattle.std.proofs.Math.Path.{◌≡◌, refl, sym, ap, subst}
 use Rattle.std.proofs.Common.{◌∙◌, arith}

@@ -1,4 +1,4 @@
--- Theorems on specs/Excluded.antt.
+-- The theorems of specs/Excluded.antt: `lists_walk`, `lists_all`, `lists_pred`, `lists_preds`, `lists_formula`, `own-listed` and others.
 use Prim.Native.Nat.{ℕ, zero, suc, ◌+◌}
 use Rattle.std.specs.Prelude.{◌≡◌, Bool, true, false, ltb, length}
 use Rattle.std.proofs.Math.Path.{refl}

@@ -1,4 +1,4 @@
--- Theorems on specs/Names.antt.
+-- The theorems of specs/Names.antt: `static_problem`, `static_walk`, `static_all`, `static_pred`, `static_preds`, `static_formula` and others.
 use Prim.Native.Nat.{ℕ, zero, suc}
 use Rattle.std.proofs.Math.Path.{◌≡◌, refl, sym}
 use Rattle.std.proofs.Common.{◌∙◌, ap}

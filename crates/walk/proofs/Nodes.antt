@@ -1,4 +1,4 @@
--- Theorems on specs/Nodes.antt.
+-- The theorems of specs/Nodes.antt: `makes-walk`, `makes-all`, `makes_pred`, `makes-preds`, `walk-nodes`.
 use Prim.Native.Nat.{ℕ, zero, suc, ◌+◌, ◌*◌}
 use Rattle.std.specs.Prelude.{◌≡◌, Bool, true, false, ltb, length}
 use Rattle.std.proofs.Math.Path.{refl}

@@ -1,4 +1,4 @@
--- Theorems on specs/Pieces.antt.
+-- The theorems of specs/Pieces.antt: `tame_notes`, `tame_spelled`, `tame_claim`, `tame_ascription`, `tame_declare`, `tame_counted` and others.
 use Prim.Native.Nat.{ℕ, zero, suc, ◌+◌}
 use Rattle.std.specs.Prelude.{◌≡◌}
 use Rattle.std.proofs.Math.Path.{refl, sym, ap}

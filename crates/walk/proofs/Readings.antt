@@ -1,4 +1,4 @@
--- Theorems on specs/Readings.antt.
+-- The theorems of specs/Readings.antt: `slots-long`, `same_typing`, `same_read`, `several-read`, `slots-told`.
 use Rattle.std.specs.Prelude.{ℕ, suc, ◌+◌, ◌<◌, ◌≡◌, refl, List, [], ◌∷◌, length}
 use Rattle.std.proofs.Common.{sym, ◌∙◌, ap, ap₂, inl, inr, arith}
 use Rattle.types.specs.Ty.{Ty}

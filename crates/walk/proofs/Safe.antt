@@ -1,4 +1,4 @@
--- Theorems on specs/Safe.antt.
+-- The theorems of specs/Safe.antt: `safe-problem`, `safe-walk`, `safe-all`, `safe_pred`, `safe-preds`, `safe-formula`.
 use Prim.Native.Nat.{ℕ, zero, suc, ◌+◌, ◌≤◌, ◌<◌}
 use Rattle.std.specs.Prelude.{◌≡◌, true, ◌&&◌, leb}
 use Rattle.std.proofs.Math.Path.{refl}

@@ -1,4 +1,5 @@
--- Theorems on specs/Tables.antt.
+-- The theorems of specs/Tables.antt: `atomic-table`, `binary-table`, `unary-table`, `relational-table`, `associative-table`, `atomic-fits` and
+-- others.
 use Rattle.std.specs.Prelude.{ℕ, ◌≡◌, true}
 use Rattle.std.proofs.Math.Path.{refl}
 use Rattle.typing.specs.Equations.{◌⟷◌, no_rule, first_of, look, never, never_typed}

@@ -1,4 +1,4 @@
--- Theorems on specs/Theorem.antt.
+-- The theorems of specs/Theorem.antt: `tame_walk`, `tame_all`, `tame_pred`, `tame_preds`, `sound-walk`, `sound-each` and others.
 use Rattle.std.specs.Prelude.{ℕ, suc, ◌+◌, ◌≡◌, true}
 use Rattle.std.proofs.Math.Path.{refl, sym, ap, ap₂, subst}
 use Rattle.std.proofs.Common.{◌∙◌}

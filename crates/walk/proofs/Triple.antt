@@ -1,4 +1,4 @@
--- Theorems on specs/Triple.antt.
+-- The theorems of specs/Triple.antt: `tame_problem`, `sound-problem`.
 use Prim.Native.Nat.{ℕ}
 use Rattle.std.proofs.Math.Path.{refl}
 use Rattle.types.specs.Ty.{Ty}

@@ -1,4 +1,4 @@
--- Theorems on specs/Verdict.antt.
+-- The theorems of specs/Verdict.antt: `walk_runs`, `admits_met`, `met_admitted`, `typings_exist`, `own-problems`, `excluded_listed` and others.
 use Rattle.std.specs.Prelude.{ℕ, suc, ◌+◌, ◌*◌, ◌≤◌, ◌<◌, ◌↔◌, Bool, true}
 use Rattle.std.proofs.Math.Path.{◌≡◌, refl, sym, ap, ap₂, subst}
 use Rattle.std.proofs.Common.{◌∙◌, inl, arith}

@@ -1,4 +1,4 @@
--- Theorems on specs/Whole.antt.
+-- The theorems of specs/Whole.antt: `tame_formula`, `sound-formula`, `complete_formula`, `met_typing`, `typing_met`, `exactly` and others.
 use Prim.Native.Nat.{ℕ, suc, ◌+◌}
 use Rattle.std.specs.Prelude.{◌≡◌, refl, ◌↔◌}
 use Rattle.std.proofs.Math.Path.{sym, ap, ap₂, subst}

@@ -1,5 +1,6 @@
 -- What the walk lists of its own is what the tree excludes: an index with no declaration, an application, an ascription to 4F,
 -- with their problems and places, in that order, and nothing else. Such a formula has no typing.
+-- Theorems that rest on what must-fail edits change stand in proofs/Excluded.antt.
 use Prim.Native.Nat.{ℕ, suc, ◌+◌}
 use Rattle.std.specs.Prelude.{◌≡◌, Bool, true, false, ltb, length}
 use Rattle.std.proofs.Math.Path.{refl}

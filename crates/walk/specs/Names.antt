@@ -1,5 +1,6 @@
 -- What the walk keeps of a formula, read off its tree: the places of the slots, and the names that the environment lacks in order of
 -- first meeting, each with its first place. After this file a reader knows that the walk's slots and row of names are those of the tree.
+-- Theorems that rest on what must-fail edits change stand in proofs/Names.antt.
 use Prim.Native.Nat.{ℕ}
 use Rattle.std.proofs.Math.Path.{◌≡◌, refl, sym}
 use Rattle.std.proofs.Common.{◌∙◌, ap, ap₂, arith, eqb-true}

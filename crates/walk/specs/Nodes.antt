@@ -1,5 +1,6 @@
 -- How many nodes a formula makes, record by record, read off its tree. After this file a reader can tell the capacity that a formula
 -- needs: what its records make, and once for each name met what the environment's type of it takes, or one where it is lacking.
+-- Theorems that rest on what must-fail edits change stand in proofs/Nodes.antt.
 use Prim.Native.Nat.{ℕ, suc, ◌+◌, ◌*◌}
 use Rattle.std.specs.Prelude.{◌≡◌, length}
 use mathlib.Core.List.{List, [], ◌∷◌}

@@ -1,4 +1,5 @@
 -- Names, types, notes, declarations and scripts: what each piece of the walk asks, in both directions.
+-- Theorems that rest on what must-fail edits change stand in proofs/Pieces.antt.
 use Prim.Native.Nat.{ℕ, zero, suc, ◌+◌}
 use Rattle.std.specs.Prelude.{◌≡◌, true, ◌&&◌, leb}
 use Rattle.std.proofs.Math.Path.{refl, sym, ap, ap₂}

@@ -1,5 +1,6 @@
 -- Typings and the assignments they are read off. After this file a reader knows that a typing is nothing but what it gives to the
 -- slots and to the lacking names, and that two assignments which differ at one of those are read as two different typings.
+-- Theorems that rest on what must-fail edits change stand in proofs/Readings.antt.
 use Rattle.std.specs.Prelude.{ℕ, ◌≡◌, ◌⊎◌, List, [], ◌∷◌}
 use Rattle.types.specs.Ty.{Ty}
 use Rattle.formula.specs.Environment.{lacks, Env}

@@ -1,5 +1,6 @@
 -- Every reference of the walk is to a node already made, and every unknown is made with rank 0: the operations never leave the arena, and chains of
 -- bindings stay short in it.
+-- Theorems that rest on what must-fail edits change stand in proofs/Safe.antt.
 use Prim.Native.Nat.{ℕ, suc, ◌+◌, ◌≤◌, ◌<◌}
 use Rattle.std.specs.Prelude.{◌≡◌, true, ◌&&◌, leb}
 use Rattle.std.proofs.Math.Path.{refl, subst}

@@ -1,5 +1,6 @@
 -- A script amounts to a rule, and the tables of scripts amount to the tables of rules: shown once for all operators.
 -- After this file a reader knows that every operator's nodes and comparisons say exactly what its typing rule says.
+-- Theorems that rest on what must-fail edits change stand in proofs/Tables.antt.
 use Rattle.std.specs.Prelude.{ℕ, suc, ◌+◌, ◌<◌, ◌≡◌, Bool, true, false, ◌&&◌, eqb, ltb, leb, length}
 use Rattle.std.proofs.Math.Path.{refl, sym, ap, ap₂}
 use Rattle.std.proofs.Common.{◌∙◌, arith, eq-eqb, ne_eqb, ltb-true}

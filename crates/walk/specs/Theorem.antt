@@ -1,4 +1,5 @@
 -- The comparisons of an expression or predicate ask exactly what its typing rules say: what they ask is a typing, and every typing is met.
+-- Theorems that rest on what must-fail edits change stand in proofs/Theorem.antt.
 use Rattle.std.specs.Prelude.{ℕ, suc, ◌≡◌, true}
 use Rattle.std.proofs.Math.Path.{refl}
 use Rattle.types.specs.Ty.{Ty}

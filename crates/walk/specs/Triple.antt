@@ -1,6 +1,7 @@
 -- Pieces of the walk put together: what the parts ask, and what they leave, carries over to the whole.
 -- `Tame`: how many slots a piece fills, and that it loses no name. `Sound`: what an assignment that meets a piece's operations
 -- must satisfy. `Complete`: types for a piece's nodes with which its operations are met.
+-- Theorems that rest on what must-fail edits change stand in proofs/Triple.antt.
 use Prim.Native.Nat.{ℕ, suc, ◌+◌}
 use Rattle.std.specs.Prelude.{◌≡◌, Bool, true, false, eqb}
 use Rattle.std.proofs.Math.Path.{refl, sym, ap, ap₂, subst}

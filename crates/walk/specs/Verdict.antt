@@ -1,5 +1,6 @@
 -- What a walk that was run says of a formula's typings: none, one or several.
 -- `s` is the arena after the walk's operations were run from an empty one, all of them, within capacity and budget.
+-- Theorems that rest on what must-fail edits change stand in proofs/Verdict.antt.
 use Rattle.std.specs.Prelude.{ℕ}
 use Rattle.std.proofs.Math.Path.{◌≡◌}
 use mathlib.Core.List.{List, [], ◌∷◌}

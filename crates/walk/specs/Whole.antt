@@ -1,5 +1,6 @@
 -- The comparisons of a formula are met by exactly its typings: promise E2.
 -- After this file a reader knows that the rules of the language and the operations of the walk say the same of every formula.
+-- Theorems that rest on what must-fail edits change stand in proofs/Whole.antt.
 use Prim.Native.Nat.{ℕ, suc}
 use Rattle.std.specs.Prelude.{◌≡◌, refl}
 use mathlib.Core.List.{List, [], ◌∷◌}
