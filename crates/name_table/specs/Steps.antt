@@ -182,6 +182,9 @@ same_turned [] (y ∷ b) = refl
 same_turned (x ∷ a) [] = refl
 same_turned (x ∷ a) (y ∷ b) = rw (eqb_turned x y, same_turned a b)
 
+pub boolean_is : (w l : List ℕ) → l ≡ boolean → pointwise eqb w l ≡ same boolean w
+boolean_is w l e = rw e (same_is w boolean ∙ same_turned w boolean)
+
 module _ (ns : List (List ℕ)) (i : ℕ) (w : List ℕ) where
   pub name_no_word : false ≡ is_word w → false ≡ good_name ns i w
   unfolding good_name
@@ -190,11 +193,11 @@ module _ (ns : List (List ℕ)) (i : ℕ) (w : List ℕ) where
   module _ (e : true ≡ is_word w) (l : List ℕ) (b : l ≡ boolean) where
     pub name_reserved : false ≡ not (pointwise eqb w l) → false ≡ good_name ns i w
     unfolding good_name
-    name_reserved h = rw (← e, same_turned boolean w, ← same_is w boolean, ← b, ← h)
+    name_reserved h = rw (← e, ← boolean_is w l b, ← h)
 
     pub name_placed : true ≡ not (pointwise eqb w l) → good_name ns i w ≡ is_at i (find ns w)
     unfolding good_name
-    name_placed h = rw (← e, same_turned boolean w, ← same_is w boolean, ← b, ← h)
+    name_placed h = rw (← e, ← boolean_is w l b, ← h)
 
 -- ---- a good table
 
