@@ -15,12 +15,12 @@ use Rattle.inference.specs.Answer as I
 use Rattle.inference.specs.Answer.{Problem, spell_problems, spell_slots, refused, written}
 use Rattle.inference.specs.Finish.{Outcome, typed, failed}
 use Rattle.inference.specs.Infer.{either, zeros, fitting, answer, answered, output_after, work_after}
-use Rattle.machine.specs.declared.State.{State}
+use Rattle.machine.specs.State.{State}
 use Rattle.forms.specs.Forms.{test, then}
 use Rattle.machine.specs.Machine.{Mach}
 use Rattle.memory.specs.Memory.{cleared}
 use Rattle.simulation.specs.Relation.{Wrote}
-use Rattle.simulation.specs.Stand.{test_yes, test_no}
+use Rattle.machine.specs.Still.{test_yes, test_no}
 use Rattle.conclusion.specs.Conclusion.{Concludes}
 use Rattle.finisher.specs.Finisher.{write_answer_of}
 use Rattle.runner.specs.declared.Answer.TheVariants.{Typed, Problems, Full, Spent, NoRoom}

@@ -13,7 +13,7 @@ use Rattle.types.specs.Limits.{max_names, max_depth}
 use Rattle.simulation.specs.Relation.{Entered}
 use Rattle.simulation.specs.Decls.{below_up}
 use Rattle.simulation.specs.Whole.{Fresh}
-use Rattle.machine.specs.declared.State.{State}
+use Rattle.machine.specs.State.{State}
 use Rattle.machine.specs.Machine.{Mach, mach, cell, put_of}
 use Rattle.memory.specs.Memory.{cleared}
 use Rattle.runner.specs.Begin.{start_of, entered_from, entered_of}

@@ -7,7 +7,7 @@ use Rattle.unifier.specs.declared.Told.TheVariants as To
 use Rattle.unifier.specs.Answers.{told}
 use Rattle.write.specs.declared.Wrote.TheVariants as Wr
 use Rattle.write.specs.Answers.{laid}
-use Rattle.machine.specs.declared.State.{State}
+use Rattle.machine.specs.State.{State}
 use Rattle.forms.specs.Forms.{then}
 use Rattle.machine.specs.Machine.{Mach, mach, whole, left_of, stopped_of, bytes_of, over_of, list_of}
 use Rattle.finisher.specs.Finisher.{told_by, laid_by, each_of}

@@ -4,7 +4,7 @@ use Rattle.types.specs.declared.NodeRef.{NodeRef}
 use Rattle.types.specs.declared.Place.{Place}
 use Rattle.operators.specs.declared.Item.{Item}
 use Rattle.operators.specs.Operators.{script_at, item_at}
-use Rattle.machine.specs.declared.State.{State}
+use Rattle.machine.specs.State.{State}
 use Rattle.machine.specs.declared.Parts.{Parts}
 use Rattle.forms.specs.Forms.{test, then}
 use Rattle.machine.specs.Machine.{Mach, with_st, gave_of, make_of, expect_of}

@@ -11,7 +11,7 @@ use Rattle.heads.specs.declared.DeclHead.TheVariants.{Plain, Typed, Annotated}
 use Rattle.heads.specs.declared.DeclAt.{DeclAt}
 use Rattle.heads.specs.declared.DeclAt.TheVariants.{Wrong, Is}
 use Rattle.heads.specs.Heads.{byte_at, decl_head, decl_end}
-use Rattle.machine.specs.declared.State.{State}
+use Rattle.machine.specs.State.{State}
 use Rattle.forms.specs.Forms.{test, then}
 use Rattle.machine.specs.Machine.{Mach, with_st, cell, word_of, stopped_of, placed_of, passed_of, gave_of, enter_of, list_of, make_of, expect_of, leave_of, remember_of, enrol_of, push_bound_of}
 

@@ -4,7 +4,7 @@
 ghost use Rattle.std.specs.Prelude.{◌≡◌, List, ℕ, ◌+◌, ◌*◌, ◌-◌, ◌<◌, ◌≤◌, length};
 ghost use Rattle.inference.specs.Infer.{sized};
 ghost use Rattle.machine.specs.Machine.{mach};
-ghost use Rattle.machine.specs.declared.State as S;
+ghost use Rattle.machine.specs.State as S;
 ghost use Rattle.memory.specs.Memory.{cleared};
 ghost use Rattle.runner.specs.Answers.{told, called};
 ghost use Rattle.runner.specs.Begin.{start_of, entered_of};

@@ -15,7 +15,7 @@ use Rattle.unification.specs.Ops.{Sound, exec}
 use Rattle.walk.specs.Writer.{Walk, W, done, ◌>>=◌, same, unknown}
 use Rattle.walk.specs.Scripts.{pick, three}
 use Rattle.walk.specs.Walk.{Mode, loose, each, links, relation, stepped, walk, walk_all}
-use Rattle.machine.specs.declared.State.{State}
+use Rattle.machine.specs.State.{State}
 use Rattle.operators.specs.declared.Plan.{Plan}
 use Rattle.forms.specs.Forms.{then}
 use Rattle.machine.specs.Machine.{Mach, with_st, gave_of, expect_of}
@@ -23,9 +23,9 @@ use Rattle.machine.specs.Scripts.{parts_of, play_of}
 use Rattle.walker.specs.Walk.{meet_of, next_of, child_by, children_by, all_by}
 use Rattle.simulation.specs.Relation.{Ended, Runs}
 use Rattle.simulation.specs.Bind.{runs_bind}
-use Rattle.simulation.specs.Stand.{test_yes, test_no, standing, gave_eq, runs_if, runs_map, runs_stand}
-use Rattle.simulation.specs.Still.{still_play}
-use Rattle.simulation.specs.StillWalk.{Still, still_meet, still_children}
+use Rattle.simulation.specs.Stand.{standing, gave_eq, runs_if, runs_map, runs_stand}
+use Rattle.machine.specs.Still.{test_yes, test_no, still_play}
+use Rattle.walker.specs.StillWalk.{Still, still_meet, still_children}
 use Rattle.simulation.specs.Steps.{told, runs_after}
 use Rattle.simulation.specs.Nodes.{Came, Gave, Stood, runs_expect}
 use Rattle.simulation.specs.Play.{tied, items, runs_script}

@@ -31,9 +31,9 @@ use Rattle.forms.specs.Forms.{test, then}
 use Rattle.machine.specs.Machine.{Mach, with_st, paid_of, enter_of, leave_of}
 use Rattle.walker.specs.Walk.{typed_by, body_by, pred_body_by, entered_by, expr_by, pred_by, paid_by, owned_by, expr_of, pred_of}
 use Rattle.simulation.specs.Relation.{Runs}
-use Rattle.simulation.specs.Stand.{test_yes, test_no, runs_if}
-use Rattle.simulation.specs.Still.{Halted, still_leave}
-use Rattle.simulation.specs.StillWalk.{Still, still_body, still_pbody, still_explicit, still_expr, still_pred}
+use Rattle.simulation.specs.Stand.{runs_if}
+use Rattle.machine.specs.Still.{test_yes, test_no, Halted, still_leave}
+use Rattle.walker.specs.StillWalk.{Still, still_body, still_pbody, still_explicit, still_expr, still_pred}
 use Rattle.simulation.specs.Output.{assoc}
 use Rattle.simulation.specs.Nodes.{Came, Gave}
 use Rattle.simulation.specs.Bytes.{drop_past}

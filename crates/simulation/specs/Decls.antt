@@ -32,14 +32,14 @@ use Rattle.unification.proofs.Exec.{exec_nil}
 use Rattle.walk.specs.Writer.{Row, find, done, ◌>>=◌, enter, own, unknown, problem}
 use Rattle.walk.specs.Walk.{meets, spelled, ascription, claim, at_decl, declare, over}
 use Rattle.inference.specs.Finish.{names}
-use Rattle.machine.specs.declared.State.{State}
+use Rattle.machine.specs.State.{State}
 use Rattle.forms.specs.Forms.{test, then}
 use Rattle.machine.specs.Machine.{Mach, with_st, cell, put_of, stopped_of, placed_of, arrived_of, bound_of, left_of, paid_of, enter_of, make_of, list_of, leave_of, push_bound_of}
 use Rattle.machine.specs.Types.{meets_of, spelled_of, ascription_by, ascription_of, annotation_by, claim_of, declaration_by, declaration_of, times_of, declare_of}
 use Rattle.simulation.specs.Relation.{Books, Ended, Runs}
 use Rattle.simulation.specs.Bind.{runs_bind}
-use Rattle.simulation.specs.Stand.{test_yes, test_no, standing, placed_eq, runs_if, runs_map, runs_stand}
-use Rattle.simulation.specs.Still.{still_make, still_placed, still_claim, still_push, still_declare, still_within}
+use Rattle.simulation.specs.Stand.{standing, placed_eq, runs_if, runs_map, runs_stand}
+use Rattle.machine.specs.Still.{test_yes, test_no, still_make, still_placed, still_claim, still_push, still_declare, still_within}
 use Rattle.simulation.specs.Steps.{runs_after, runs_then, runs_prior}
 use Rattle.simulation.specs.Output.{assoc}
 use Rattle.simulation.specs.Nodes.{Came, Gave, Stood, runs_make, runs_list}

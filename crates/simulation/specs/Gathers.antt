@@ -12,7 +12,7 @@ use Rattle.unification.specs.Trees.{and_left, and_right}
 use Rattle.walk.specs.Writer.{W, done, ◌>>=◌, unknown, power, problem}
 use Rattle.walk.specs.Scripts.{Script, scripted, new, an_unknown, a_power, left, perform, three, Gather, all_as, linked, no_script}
 use Rattle.walk.specs.Walk.{Mode, loose, each, links, relation, last, gather, walk_all}
-use Rattle.machine.specs.declared.State.{State}
+use Rattle.machine.specs.State.{State}
 use Rattle.operators.specs.declared.Plan.{Plan}
 use Rattle.forms.specs.Forms.{test}
 use Rattle.operators.specs.Tables.{deeds_t, lefts_t, rights_t, places_t, starts_t, gives_t}
@@ -23,8 +23,8 @@ use Rattle.walker.specs.Walk.{all_by}
 use Rattle.simulation.specs.Relation.{Runs}
 use Rattle.simulation.specs.Bind.{runs_bind}
 use Rattle.simulation.specs.Stand.{standing, gave_eq, runs_if, runs_map, runs_stand}
-use Rattle.simulation.specs.Still.{still_list}
-use Rattle.simulation.specs.StillWalk.{Still}
+use Rattle.machine.specs.Still.{still_list}
+use Rattle.walker.specs.StillWalk.{Still}
 use Rattle.simulation.specs.Steps.{runs_same, prior_is, past_is}
 use Rattle.simulation.specs.Nodes.{Gave, runs_list}
 use Rattle.simulation.specs.Play.{code, within, agree, agrees, tied}

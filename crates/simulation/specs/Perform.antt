@@ -9,7 +9,7 @@ use Rattle.unification.specs.Ops.{Sound, exec}
 use Rattle.typing.specs.Equations.{look, first_of, forward, backward}
 use Rattle.walk.specs.Writer.{Row, Walk}
 use Rattle.walk.specs.Scripts.{Ref, Item, an_unknown, a_power, new, Script, scripted, pick, perform, three, left, only, never_items, never_script, atomic_scripts, binary_scripts, unary_scripts, quantified_scripts, relational_scripts, simple_script, Gather, all_as, linked, no_script, associative_scripts}
-use Rattle.machine.specs.declared.State.{State}
+use Rattle.machine.specs.State.{State}
 use Rattle.operators.specs.declared.Plan.{Plan}
 use Rattle.machine.specs.declared.Parts.{Parts}
 use Rattle.forms.specs.Forms.{test}

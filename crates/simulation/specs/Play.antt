@@ -16,7 +16,7 @@ use Rattle.unification.specs.Ops.{Op}
 use Rattle.unification.specs.Make.{builds_unknown, builds_boolean, builds_integer, builds_power, builds_pair}
 use Rattle.walk.specs.Writer.{Row, W, done, glue, ◌>>=◌, node, same}
 use Rattle.walk.specs.Scripts.{Ref, arg, new, Item, an_unknown, a_bool, an_int, a_power, a_pair, equal, Script, pick, play}
-use Rattle.machine.specs.declared.State.{State}
+use Rattle.machine.specs.State.{State}
 use Rattle.operators.specs.declared.Item as MI
 use Rattle.machine.specs.declared.Parts.{Parts}
 use Rattle.forms.specs.Forms.{then}
@@ -25,8 +25,8 @@ use Rattle.operators.specs.Operators.{script_at, item_at}
 use Rattle.machine.specs.Scripts.{chosen_of, place_of, item_of, items_of, play_of}
 use Rattle.simulation.specs.Relation.{Runs}
 use Rattle.simulation.specs.Bind.{runs_bind}
-use Rattle.simulation.specs.Stand.{test_yes, test_no, gave_eq, runs_if, runs_map, runs_stand}
-use Rattle.simulation.specs.Still.{still_items, still_gave}
+use Rattle.simulation.specs.Stand.{gave_eq, runs_if, runs_map, runs_stand}
+use Rattle.machine.specs.Still.{test_yes, test_no, still_items, still_gave}
 use Rattle.simulation.specs.Steps.{told, runs_same, runs_told, runs_then}
 use Rattle.simulation.specs.Nodes.{Came, Stood, runs_make, runs_expect}
 

@@ -28,8 +28,8 @@ use Rattle.walker.specs.Walk.{one_by, two_by, all_by, multiple_plan, application
 use Rattle.simulation.specs.Relation.{Runs}
 use Rattle.simulation.specs.Bind.{runs_bind}
 use Rattle.simulation.specs.Stand.{runs_map, runs_stand}
-use Rattle.simulation.specs.Still.{still_bound, still_within, still_times}
-use Rattle.simulation.specs.StillWalk.{Still}
+use Rattle.machine.specs.Still.{still_bound, still_within, still_times}
+use Rattle.walker.specs.StillWalk.{Still}
 use Rattle.simulation.specs.Steps.{told, nil_right, runs_same, runs_given, runs_told}
 use Rattle.simulation.specs.Decls.{runs_declare}
 use Rattle.simulation.specs.Perform.{relational-tied, simple-tied}

@@ -30,7 +30,7 @@ use Rattle.walker.specs.Walk.{expr_of, pred_of}
 use Rattle.walker.specs.Root.{pair_by, pairs_of, becomes_in_of, becomes_such_of, root_by, formula_of}
 use Rattle.simulation.specs.Relation.{Runs}
 use Rattle.simulation.specs.Stand.{runs_if, runs_map}
-use Rattle.simulation.specs.Still.{Halted, still_placed, still_times, still_bound, still_within}
+use Rattle.machine.specs.Still.{Halted, still_placed, still_times, still_bound, still_within}
 use Rattle.simulation.specs.Steps.{told, nil_right, runs_same, runs_told}
 use Rattle.simulation.specs.Output.{assoc}
 use Rattle.simulation.specs.Nodes.{Came}

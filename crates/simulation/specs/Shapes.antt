@@ -11,7 +11,7 @@ use Rattle.unification.specs.Ops.{make}
 use Rattle.walk.specs.Writer.{Row, W, glue, ◌>>=◌, node, unknown, power, UNKNOWN, POWER, PRODUCT}
 use Rattle.walk.specs.Scripts.{new, an_unknown, a_power, a_pair, Script, scripted, pick, play, perform, three, left, right}
 use Rattle.walk.specs.Walk.{Mode, loose, each, links, relation, walk}
-use Rattle.machine.specs.declared.State.{State}
+use Rattle.machine.specs.State.{State}
 use Rattle.operators.specs.declared.Plan.{Plan}
 use Rattle.forms.specs.Forms.{test, then}
 use Rattle.operators.specs.Tables.{deeds_t, lefts_t, rights_t, places_t, starts_t, gives_t}
@@ -22,8 +22,8 @@ use Rattle.walker.specs.Walk.{one_by, two_by}
 use Rattle.simulation.specs.Relation.{Runs}
 use Rattle.simulation.specs.Bind.{runs_bind}
 use Rattle.simulation.specs.Stand.{runs_map}
-use Rattle.simulation.specs.Still.{still_play}
-use Rattle.simulation.specs.StillWalk.{Still}
+use Rattle.machine.specs.Still.{still_play}
+use Rattle.walker.specs.StillWalk.{Still}
 use Rattle.simulation.specs.Steps.{told}
 use Rattle.simulation.specs.Nodes.{Came, Gave}
 use Rattle.simulation.specs.Play.{code, within, agree, agrees, tied, items}

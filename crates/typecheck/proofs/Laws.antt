@@ -2,7 +2,7 @@
 use Rattle.std.proofs.Common.{ℕ, ◌+◌, ◌≤◌, ◌<◌, sym, ap, ap₂, arith, length-take-le, lt-ltb, le-ltb, List, ◌++◌, ◌≡◌, ◌∙◌, refl, length, take, drop}
 use Rattle.std.proofs.Math.Decide.{dec_lt}
 use Rattle.std.proofs.Math.Seq.{take_all, take-append_seam, length_front}
-use Rattle.machine.specs.declared.State.{State}
+use Rattle.machine.specs.State.{State}
 use Rattle.forms.specs.Forms.{test}
 use Rattle.machine.specs.Machine.{mach, smaller}
 use Rattle.memory.specs.Memory.{cleared}

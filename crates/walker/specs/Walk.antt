@@ -14,7 +14,7 @@ use Rattle.heads.specs.declared.PredAt.{PredAt}
 use Rattle.heads.specs.declared.PredAt.TheVariants as PA
 use Rattle.types.specs.Record.{reach}
 use Rattle.heads.specs.Heads.{expr_head, pred_head}
-use Rattle.machine.specs.declared.State.{State}
+use Rattle.machine.specs.State.{State}
 use Rattle.operators.specs.declared.Plan.{Plan}
 use Rattle.forms.specs.Forms.{test, then}
 use Rattle.machine.specs.Machine.{Mach, with_st, stopped_of, placed_of, gave_of, bound_of, paid_of, enter_of, list_of, make_of, expect_of, leave_of}

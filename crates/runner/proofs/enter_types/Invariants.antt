@@ -1,5 +1,5 @@
 use Rattle.std.proofs.Common.{ℕ, ◌-◌, ◌≡◌, List, length}
-use Rattle.machine.specs.declared.State.{State}
+use Rattle.machine.specs.State.{State}
 use Rattle.machine.specs.Machine.{mach}
 use Rattle.runner.specs.Begin.{entered_from}
 use Rattle.runner.proofs.enter_types.Given as goal
