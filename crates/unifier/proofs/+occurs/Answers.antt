@@ -1,5 +1,4 @@
-use Rattle.std.proofs.Common.{◌≡◌, Err, true, false, sym, ap, ◌∙◌, arith, rules}
-use Rattle.meter.specs.Meter.{done}
+use Rattle.std.proofs.Common.{◌≡◌, Err, sym, ap, ◌∙◌, arith, rules}
 use Rattle.types.specs.declared.NodeRef.{NodeRef}
 use Rattle.unification.specs.Code.{reach-left, occurs-left, occurs-here}
 use Rattle.unifier.proofs.Laws.{occurs-halted, occurs_plain, occurs_power, occurs_right, occurs_left, occurs-left-halted}

@@ -1,4 +1,4 @@
-use Rattle.std.proofs.Common.{◌≡◌, Err, true, false, sym, ap, ◌∙◌, arith, rules}
+use Rattle.std.proofs.Common.{◌≡◌, Err, sym, ◌∙◌, arith}
 use Rattle.unification.specs.Code.{reach-left, solved-left}
 use Rattle.unifier.proofs.Laws.{solved-halted, solved_unknown, solved_leaf, solved_power, solved_right, solved_left, solved-left-halted}
 use Rattle.unifier.proofs.+solved.Goals as goal

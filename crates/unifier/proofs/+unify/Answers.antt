@@ -1,7 +1,6 @@
-use Rattle.std.proofs.Common.{◌≡◌, ◌≢◌, Err, sym, ap, ◌∙◌, arith, rules}
+use Rattle.std.proofs.Common.{◌≡◌, Err, sym, ◌∙◌, arith, rules}
 use Rattle.unification.specs.Code.{take-inside, take_left}
 use Rattle.unification.proofs.CodeLaws.{unify-left, unify-same, unify-differ, unify-bind, unify-one}
-use Rattle.unifier.specs.declared.Verdict.TheVariants.{Done}
 use Rattle.unifier.proofs.Laws.{asks, unify-halted, unify-left-halted, unify-left-ended, unify-left-done}
 use Rattle.unifier.proofs.+unify.Goals as goal
 

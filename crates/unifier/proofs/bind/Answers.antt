@@ -1,4 +1,4 @@
-use Rattle.std.proofs.Common.{◌≡◌, Err, sym, ◌∙◌, arith}
+use Rattle.std.proofs.Common.{◌≡◌, Err, sym, arith}
 use Rattle.unification.proofs.CodeLaws.{assign_circular}
 use Rattle.unifier.proofs.Laws.{assign-halted, assign-merged}
 use Rattle.unifier.proofs.bind.Goals as goal

@@ -1,4 +1,4 @@
-use Rattle.std.proofs.Common.{refl, ap, sym, ◌∙◌, rules}
+use Rattle.std.proofs.Common.{refl, rules}
 use Rattle.unification.specs.Arena.{meet}
 use Rattle.unification.specs.Tasks.{task_of}
 use Rattle.unifier.proofs.Laws.{meet-same, meet-differ, meet-leaf, meet-power, meet-product}

@@ -1,4 +1,4 @@
-use Rattle.std.proofs.Common.{◌≡◌, ◌≢◌, ◌-◌, Err, sym, ◌∙◌, arith}
+use Rattle.std.proofs.Common.{◌≡◌, ◌≢◌, ◌-◌, Err, sym, arith}
 use Rattle.unification.specs.Code.{reach-short, reach-done}
 use Rattle.unifier.specs.declared.Halt.TheVariants.{Spent}
 use Rattle.unifier.proofs.Laws.{reach-halted}
