@@ -1,21 +1,15 @@
-use Rattle.std.proofs.Common.{sym, ◌∙◌}
-use Rattle.unification.proofs.CodeLaws.{assign_circular, assign-spent, assign_broken, assign-bound}
-use Rattle.unifier.specs.Answers.{unified_as}
-use Rattle.unifier.proofs.Laws.{as_merged, told_yes, told_no, told-spent, told_broken}
+use Rattle.std.proofs.Common.{◌≡◌, Err, sym, arith}
+use Rattle.unification.proofs.CodeLaws.{assign_circular}
+use Rattle.unifier.proofs.Laws.{assign-halted, assign-merged}
 use Rattle.unifier.proofs.bind.Goals as goal
 
-pub returns-then-found-eq1 : goal.returns-then-found-eq1
-unfolding unified_as
-returns-then-found-eq1 c = as_merged _ _ _ _ c.merge.ensures (assign-bound _ _ _ _ _ _ (sym c.seek-found.ensures ∙ told_no _ _ c.if-found-eq1.true))
+pub returns-in_err-occurs : goal.returns-in_err-occurs
+returns-in_err-occurs c =
+    let r : c.from_residual.result ≡ Err c.in_err-occurs.field-0.0 = grind arith in
+    rw r (assign-halted _ _ _ _ _ _ c.in_err-occurs.ensures)
 
-pub returns-then-found-eq0 : goal.returns-then-found-eq0
-unfolding unified_as
-returns-then-found-eq0 c = sym (assign_circular _ _ _ _ _ _ (sym c.seek-found.ensures ∙ told_yes _ _ c.if-found-eq0.true))
-
-pub returns-then-found-eq7 : goal.returns-then-found-eq7
-unfolding unified_as
-returns-then-found-eq7 c = sym (assign-spent _ _ _ _ _ (sym c.seek-found.ensures ∙ told-spent _ _ c.if-found-eq7.true))
+pub returns-then-branch : goal.returns-then-branch
+returns-then-branch c = sym (assign_circular _ _ _ _ _ _ (sym (rw c.if-branch.true at c.in_ok-occurs.ensures)))
 
 pub returns : goal.returns
-unfolding unified_as
-returns c = sym (assign_broken _ _ _ _ _ (sym c.seek-found.ensures ∙ told_broken _ _ c.if-found-eq0.false c.if-found-eq1.false c.if-found-eq7.false))
+returns c = assign-merged _ _ _ _ _ _ _ (rw c.if-branch.false at c.in_ok-occurs.ensures) c.merge.ensures
