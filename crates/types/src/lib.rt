@@ -27,116 +27,99 @@ pub const BOOK: usize = 4096;
 // ---- kinds of number
 
 // A node of the arena.
-#[derive(Clone, Copy)]
+#[derive(Clone, Copy, PartialEq, Eq)]
 pub struct NodeRef(pub u32);
 
 // A name's number.
-#[derive(Clone, Copy)]
+#[derive(Clone, Copy, PartialEq, Eq)]
 pub struct Name(pub u32);
 
 // A byte offset into a stream.
-#[derive(Clone, Copy)]
+#[derive(Clone, Copy, PartialEq, Eq)]
 pub struct Place(pub u32);
 
 // A type without parts.
-#[derive(Clone, Copy)]
+#[derive(Clone, Copy, PartialEq, Eq)]
 pub enum Atom {
     Bool,
     Integer,
     Given(Name),
 }
 
+// A node of the arena that is no binding.
+#[derive(Clone, Copy, PartialEq, Eq)]
+pub enum Node {
+    Unknown,
+    Leaf(Atom),
+    Power(NodeRef),
+    Product(NodeRef, NodeRef),
+}
+
 // What a type record begins with, and the offset after its body.
-#[derive(Clone, Copy)]
+#[derive(Clone, Copy, PartialEq, Eq)]
 pub enum Head {
     Atomic(Atom, usize),
     Power(usize),
     Product(usize),
-    Wrong,
 }
 
-// Where a type record ends, with its parts; or its first fault.
-#[derive(Clone, Copy)]
-pub enum TypeEnd {
-    End(Place),
-    Malformed(Place),
-    Deep(Place),
-}
-
-fn wide(b: u8) -> u32
-    ensures { result ≡ b }
-{
-    b as u32
+// A record that is malformed, or one that passes a limit, and where it begins. P: what numbers a place.
+#[derive(Clone, Copy, PartialEq, Eq)]
+pub enum Fault<P> {
+    Malformed(P),
+    Beyond(P),
 }
 
 // A given set's record: two more bytes, a name below the count.
-fn given_at(s: &[u8], names: u32, at: usize) -> Head
+fn given_at(s: &[u8], names: u32, at: usize) -> Option<Head>
     requires { at < length s.now }
     ensures { head_is result ≡ given_of names at (drop (at + 1) s.now) }
 {
     if s.len() - at < 3 {
-        return Head::Wrong;
+        return None;
     }
-    let lo = wide(s[at + 1]);
-    let hi = wide(s[at + 2]);
-    let n = lo + hi * 256;
+    let n = u32::from(u16::from_le_bytes([s[at + 1], s[at + 2]]));
     if n < names {
-        return Head::Atomic(Atom::Given(Name(n)), at + 3);
+        return Some(Head::Atomic(Atom::Given(Name(n)), at + 3));
     }
-    Head::Wrong
+    None
 }
 
 // The head of the type record at an offset; past the end there is none.
-pub fn head_at(s: &[u8], names: u32, at: usize) -> Head
+pub fn head_at(s: &[u8], names: u32, at: usize) -> Option<Head>
     ensures { head_is result ≡ head_of names at (drop at s.now) }
 {
-    if at >= s.len() {
-        return Head::Wrong;
-    }
-    match s[at] {
-        0x40 => Head::Atomic(Atom::Bool, at + 1),
-        0x41 => Head::Atomic(Atom::Integer, at + 1),
+    match *s.get(at)? {
+        0x40 => Some(Head::Atomic(Atom::Bool, at + 1)),
+        0x41 => Some(Head::Atomic(Atom::Integer, at + 1)),
         0x42 => given_at(s, names, at),
-        0x43 => Head::Power(at + 1),
-        0x44 => Head::Product(at + 1),
-        _ => Head::Wrong,
+        0x43 => Some(Head::Power(at + 1)),
+        0x44 => Some(Head::Product(at + 1)),
+        _ => None,
     }
 }
 
 // left: the levels of records that remain, this one's included. At 0 a record that is well formed itself is too deep.
-fn end_at(s: &[u8], names: u32, at: Place, left: u32) -> TypeEnd
+fn end_at(s: &[u8], names: u32, at: Place, left: u32) -> Result<Place, Fault<Place>>
     requires { length s.now ≤ 4294967295 }
     ensures { result ≡ end_of (type_at left names s.now at.0) }
 {
-    match head_at(s, names, at.0 as usize) {
-        Head::Wrong => TypeEnd::Malformed(at),
-        Head::Atomic(_, e) => {
-            if left == 0 {
-                return TypeEnd::Deep(at);
-            }
-            TypeEnd::End(Place(e as u32))
-        }
-        Head::Power(e) => {
-            if left == 0 {
-                return TypeEnd::Deep(at);
-            }
-            end_at(s, names, Place(e as u32), left - 1)
-        }
+    let head = head_at(s, names, at.0 as usize).ok_or(Fault::Malformed(at))?;
+    if left == 0 {
+        return Err(Fault::Beyond(at));
+    }
+    match head {
+        Head::Atomic(_, e) => Ok(Place(e as u32)),
+        Head::Power(e) => end_at(s, names, Place(e as u32), left - 1),
         Head::Product(e) => {
-            if left == 0 {
-                return TypeEnd::Deep(at);
-            }
-            match end_at(s, names, Place(e as u32), left - 1) {
-                TypeEnd::Malformed(p) => TypeEnd::Malformed(p),
-                TypeEnd::Deep(p) => TypeEnd::Deep(p),
-                TypeEnd::End(f) => end_at(s, names, f, left - 1),
-            }
+            let middle = end_at(s, names, Place(e as u32), left - 1)?;
+            end_at(s, names, middle, left - 1)
         }
     }
 }
 
 // Tests one type record in a stream. Bytes that no place can number are as if they were not there.
-pub fn type_end(s: &[u8], names: u32, at: Place, left: u32) -> TypeEnd
+pub fn type_end(s: &[u8], names: u32, at: Place, left: u32) -> Result<Place, Fault<Place>>
     ensures { result ≡ end_of (type_at left names (reach s.now) at.0) }
 {
     if s.len() > 0xFFFFFFFF {
