@@ -1,9 +1,9 @@
 -- Laws that the proofs of the machine's steps cite: the arena lent as the first words of the work slice, what the unifier's answers do, and the
 -- recursive readers at a number of levels.
-use Rattle.std.proofs.Common.{ℕ, zero, suc, ◌+◌, ◌-◌, ◌*◌, ◌≤◌, ◌<◌, sym, arith, sub-one, length-take-le, List, [], ◌∷◌, ◌++◌, lt-ltb, le-ltb, ne_eqb, ◌≡◌, ap, ap₂, ◌∙◌, refl, eqb, length, take, drop, set, mul-le-mul_right, le_of_lt, drop_of_length-le}
+use Rattle.std.proofs.Common.{ℕ, zero, suc, ◌+◌, ◌-◌, ◌*◌, ◌≤◌, ◌<◌, sym, arith, sub-one, length-take-le, List, [], ◌∷◌, ◌++◌, lt-ltb, le-ltb, ne_eqb, ◌≡◌, ap, ap₂, ◌∙◌, refl, eqb, length, take, drop, set, mul-le-mul_right, le_of_lt, drop_of_length-le, get_or}
 use Rattle.std.proofs.Math.Decide.{dec_lt}
 use Rattle.std.proofs.Math.Seq.{take_all, take_at, drop_at, set_out}
-use Rattle.std.proofs.lemmas.List.{take-set-le, drop-set-add}
+use Rattle.std.proofs.lemmas.List.{take-set-le, drop-set-add, drop_more}
 use Rattle.meter.specs.Meter.{Out, M, ret, fail}
 use Rattle.types.specs.declared.NodeRef.{NodeRef}
 use Rattle.types.specs.declared.Name.{Name}
@@ -25,10 +25,10 @@ use Rattle.makers.specs.Answers.{made}
 use Rattle.unifier.specs.Answers.{settled}
 use Rattle.machine.specs.declared.State.{State}
 use Rattle.forms.specs.Forms.{test, then}
+use Rattle.operators.specs.declared.Item.{Item}
 use Rattle.machine.specs.declared.Parts.{Parts}
-use Rattle.machine.specs.Types.{type_head, skip_by, skip_of, atom_of, lift_by, lift_of, note_of, noted_of, notes_by, notes_of, meets_of, annotation_by, claim_of, times_of}
-use Rattle.operators.specs.Operators.{item_at}
 use Rattle.machine.specs.Scripts.{item_of, items_of}
+use Rattle.machine.specs.Types.{type_head, skip_by, skip_of, atom_of, lift_by, lift_of, note_of, noted_of, notes_by, notes_of, meets_of, annotation_by, claim_of, times_of}
 use Rattle.machine.specs.Machine.{Mach, mach, whole, with_st, smaller, stopped_of, grown_of, left_of, grown_by, settled_by, judged_by, list_of, put_of, make_of}
 
 -- ---- numbers
@@ -209,16 +209,15 @@ times_more f (suc n) m h = rw sub-one
 pub by-times : (f : Mach → Mach) (n : ℕ) (m x z : Mach) → (n ≡ 0 → ⊥) → x ≡ f m → times_of f n m ≡ z → times_of f (n - 1) x ≡ z
 by-times f n m x z h e q = ap (times_of f (n - 1)) e ∙ sym (times_more f n m h) ∙ q
 
--- one turn of a script's playing: item i, of those up to u
-pub items-none : (p : Parts) (u i : ℕ) (m : Mach) → u ≤ i → items_of p (u - i) i m ≡ m
-unfolding items_of
-items-none p u i m l = let e : u - i ≡ 0 = omega arith in rw e
+-- an item by its kind
+pub by_item : (it k : Item) (p : Parts) (m x : Mach) → it ≡ k → x ≡ item_of k p m → x ≡ item_of it p m
+by_item it k p m x e h = rw e h
 
-items-suc : (p : Parts) (n k i : ℕ) (m : Mach) → n ≡ suc k → items_of p n i m ≡ items_of p k (i + 1) (then (item_at i) λ it. item_of it p m)
+-- one turn of a script's playing
+pub items_more : (p : Parts) (its : List Item) (i : ℕ) (d : Item) (m x z : Mach) → i < length its → x ≡ item_of (get_or its i d) p m → items_of p (drop i its) m ≡ z → items_of p (drop (i + 1) its) x ≡ z
 unfolding items_of
-items-suc p n k i m e = rw e
+items_more p its i d m x z l e q = ap (items_of p (drop (i + 1) its)) e ∙ ap (λ (k : List Item). items_of p k m) (sym (drop_more its i d l)) ∙ q
 
-pub items_more : (p : Parts) (u i : ℕ) (m x z : Mach) → i < u → x ≡ then (item_at i) (λ it. item_of it p m) → items_of p (u - i) i m ≡ z → items_of p (u - (i + 1)) (i + 1) x ≡ z
-items_more p u i m x z l e q =
-    let k : u - i ≡ suc (u - (i + 1)) = omega arith in
-    ap (items_of p (u - (i + 1)) (i + 1)) e ∙ sym (items-suc p (u - i) (u - (i + 1)) i m k) ∙ q
+pub items_end : (p : Parts) (its is : List Item) (i : ℕ) (m z : Mach) → length its ≤ i → its ≡ is → items_of p (drop i its) m ≡ items_of p its z → m ≡ items_of p is z
+unfolding items_of
+items_end p its is i m z l e q = ap (λ (k : List Item). items_of p k m) (sym (drop_of_length-le its l)) ∙ q ∙ ap (λ (k : List Item). items_of p k z) e

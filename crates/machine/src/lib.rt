@@ -16,7 +16,7 @@ ghost use Rattle.machine.specs.Scripts.{chosen_of, place_of, item_of, play_of, p
 
 use heads::{Byte, DeclAt, DeclHead};
 use makers::Made;
-use operators::Item;
+use operators::{Item, Operand, Script, Seat};
 use types::{Atom, Head, Name, NodeRef, Place};
 use unifier::{Told, Unified};
 
@@ -809,72 +809,78 @@ pub struct Parts {
     pub base: u32,
 }
 
-// An operand: 0 where there is none, 1 and 2 the parts, 3 + j the script's own node j.
-fn chosen(code: u8, p: Parts) -> NodeRef
-    ensures { result ≡ chosen_of code p }
+// An operand: a part, or the script's own node.
+#[tactic(auto, using(forms::specs::Forms::yes_lt, forms::specs::Forms::no_lt), unfolding(crate::specs::Scripts::chosen_of))]
+fn chosen(operand: Operand, p: Parts) -> NodeRef
+    ensures { result ≡ chosen_of operand p }
 {
-    if code == 0 {
-        return NodeRef(0);
+    match operand {
+        Operand::Left => p.left,
+        Operand::Right => p.right,
+        Operand::Own(j) => {
+            let base = p.base;
+            if base < 65536 {
+                NodeRef(base + j as u32)
+            } else {
+                NodeRef(0)
+            }
+        }
     }
-    if code == 1 {
-        return p.left;
-    }
-    if code == 2 {
-        return p.right;
-    }
-    let base = p.base;
-    if base < 65536 {
-        return NodeRef(base + (code as u32 - 3));
-    }
-    NodeRef(0)
 }
 
-fn place_of(code: u8, p: Parts) -> Place
-    ensures { result ≡ place_of code p }
+#[tactic(auto, unfolding(crate::specs::Scripts::place_of))]
+fn place_of(seat: Seat, p: Parts) -> Place
+    ensures { result ≡ place_of seat p }
 {
-    if code == 0 {
-        return p.place;
+    match seat {
+        Seat::Whole => p.place,
+        Seat::Near => p.near,
+        Seat::Far => p.far,
     }
-    if code == 1 {
-        return p.near;
-    }
-    p.far
 }
 
 // One item: a node, or a comparison.
 fn perform(work: &mut [u32], output: &mut [u8], size: u32, it: Item, p: Parts, st: State) -> State
     ensures { mach size result work.new output.new ≡ item_of it p (mach size st work.old output.old) }
 {
-    let x = chosen(it.x, p);
-    let y = chosen(it.y, p);
-    if it.kind == 1 {
-        let at = place_of(it.at, p);
-        return expect(work, output, size, x, y, at, st);
+    match it {
+        Item::Unknown => make(work, size, 0x4E, 0, 0, st),
+        Item::Boolean => make(work, size, 0x40, 0, 0, st),
+        Item::Integer => make(work, size, 0x41, 0, 0, st),
+        Item::Power(x) => {
+            let a = chosen(x, p);
+            make(work, size, 0x43, a.0, 0, st)
+        }
+        Item::Product(x, y) => {
+            let a = chosen(x, p);
+            let b = chosen(y, p);
+            make(work, size, 0x44, a.0, b.0, st)
+        }
+        Item::Equal(x, y, seat) => {
+            let a = chosen(x, p);
+            let b = chosen(y, p);
+            let at = place_of(seat, p);
+            expect(work, output, size, a, b, at, st)
+        }
     }
-    make(work, size, it.kind as u32, x.0, y.0, st)
-}
-
-// A byte as a number that can be counted up from.
-fn small(b: u8) -> u32
-    ensures value { result ≡ b }
-    ensures upper_bound { result < 256 }
-{
-    b as u32
 }
 
 // A script is played.
-pub fn play(work: &mut [u32], output: &mut [u8], size: u32, n: u8, p: Parts, st: State) -> State
-    ensures { mach size result work.new output.new ≡ play_of n p (mach size st work.old output.old) }
+pub fn play(
+    work: &mut [u32],
+    output: &mut [u8],
+    size: u32,
+    script: Script,
+    p: Parts,
+    st: State,
+) -> State
+    ensures { mach size result work.new output.new ≡ play_of script p (mach size st work.old output.old) }
 {
-    let script = operators::script_at(n);
-    let until = small(script.until);
     let mut v = st;
-    let mut i = small(script.from);
-    while i < until {
-        v = perform(work, output, size, operators::item_at(i), p, v);
-        i += 1;
+    for item in script.items() {
+        v = perform(work, output, size, *item, p, v);
     }
-    let gives = chosen(script.gives, p);
+    let gives = chosen(script.gives(), p);
     gave(gives, v)
 }
 

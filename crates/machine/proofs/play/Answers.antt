@@ -1,27 +1,13 @@
-use Rattle.std.proofs.Common.{arith, sym, ◌∙◌, refl}
+use Rattle.std.proofs.Common.{arith, refl, ap, ◌∙◌}
 use Rattle.forms.specs.Forms.{step}
-use Rattle.machine.specs.Scripts.{play_of}
-use Rattle.machine.proofs.Laws.{items_more, items-none}
+use Rattle.operators.specs.declared.Operand.{Operand}
+use Rattle.machine.specs.Scripts.{chosen_of, play_of}
+use Rattle.machine.proofs.Laws.{items_more, items_end}
 use Rattle.machine.proofs.play.Goals as goal
 
-pub loop-i-init : goal.loop-i-init
-loop-i-init c = (refl, refl, refl)
-
-pub overflow_add-i : goal.overflow_add-i
-overflow_add-i c = omega (arith, c.loop-i-test.true, c.small-until.ensures.upper_bound)
-
-pub loop-i-smaller : goal.loop-i-smaller
-loop-i-smaller c = omega (arith, c.loop-i-test.true)
-
-pub loop-i-preserved : goal.loop-i-preserved
-loop-i-preserved c = (items_more _ _ _ _ _ _ c.loop-i-test.true (step _ _ _ _ c.item_at.ensures c.perform-v.ensures) c.loop-i.invariant.0, omega (arith, c.perform-v.auto.work, c.loop-i.invariant.1), omega (arith, c.perform-v.auto.output, c.loop-i.invariant.2))
-
-pub shape_of-work : goal.shape_of-work
-shape_of-work c = omega (arith, c.loop-i.invariant.1)
-
-pub shape_of-output : goal.shape_of-output
-shape_of-output c = omega (arith, c.loop-i.invariant.2)
+pub loop-item-preserved : goal.loop-item-preserved
+loop-item-preserved c = (items_more _ c.items-item-items.result.now c.loop-item.item-index _ _ _ _ (omega (arith, c.loop-item-test.true)) c.perform-v.ensures c.loop-item.invariant.0, omega (arith, c.perform-v.auto.work, c.loop-item.invariant.1), omega (arith, c.perform-v.auto.output, c.loop-item.invariant.2))
 
 pub returns : goal.returns
 unfolding play_of
-returns c = step _ _ _ _ c.script_at-script.ensures (step _ _ _ _ c.small-until.ensures.value (step _ _ _ _ c.small-i.ensures.value (step _ _ _ _ (sym (items-none _ _ _ _ c.loop-i-test.false) ∙ c.loop-i.invariant.0) (step _ _ _ _ c.chosen-gives.ensures (step _ _ _ _ c.gave.ensures refl)))))
+returns c = step _ _ _ _ (items_end _ c.items-item-items.result.now _ c.loop-item.item-index _ _ (omega (arith, c.loop-item-test.false)) c.items-item-items.ensures c.loop-item.invariant.0) (step _ _ _ _ (c.chosen-gives.ensures ∙ ap (λ (o : Operand). chosen_of o c.args.p) c.gives.ensures) (step _ _ _ _ c.gave.ensures refl))
