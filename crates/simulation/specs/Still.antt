@@ -1,6 +1,6 @@
 -- A stopped machine stays as it is: every step of it is then no step.
 -- After this file a sequence of steps may be cut after its first stop: what comes later changes nothing.
-use Rattle.std.specs.Prelude.{ℕ, zero, suc, ◌+◌, ◌-◌, ◌/◌, ◌%◌, ◌≡◌, refl, Bool, true, false, List, eqb, ltb}
+use Rattle.std.specs.Prelude.{ℕ, zero, suc, ◌+◌, ◌/◌, ◌%◌, ◌≡◌, refl, Bool, true, false, List, [], ◌∷◌, eqb, ltb}
 use Rattle.std.proofs.Common.{◌∙◌, ap, ne_eqb}
 use Rattle.heads.specs.declared.Byte.{Byte}
 use Rattle.heads.specs.declared.Byte.TheVariants.{Missing, Of}
@@ -11,13 +11,15 @@ use Rattle.heads.specs.declared.DeclAt.TheVariants.{Wrong, Is}
 use Rattle.types.specs.Record.{reach}
 use Rattle.heads.specs.Heads.{byte_at, decl_head, decl_end}
 use Rattle.machine.specs.declared.State.{State}
+use Rattle.operators.specs.declared.Script.{Script}
 use Rattle.operators.specs.declared.Item.{Item}
+use Rattle.operators.specs.declared.Item.TheVariants.{Unknown, Boolean, Integer, Power, Product, Equal}
 use Rattle.machine.specs.declared.Parts.{Parts}
 use Rattle.forms.specs.Forms.{test, then}
 use Rattle.machine.specs.Machine.{Mach, with_st, stopped_of, placed_of, gave_of, bound_of, paid_of, enter_of, emit_of, two_of, four_of, list_of, make_of, expect_of, leave_of, remember_of, enrol_of, push_bound_of}
 use Rattle.machine.specs.Types.{skip_of, lift_of, free_of, bound_identifier_of, notes_of, meets_of, spelled_of, ascription_by, ascription_of, annotation_by, claim_of, declaration_by, declaration_of, times_of, declare_of}
-use Rattle.operators.specs.Operators.{script_at, item_at}
-use Rattle.machine.specs.Scripts.{chosen_of, item_of, items_of, play_of}
+use Rattle.operators.specs.Scripts.{items_in, given_by}
+use Rattle.machine.specs.Scripts.{chosen_of, place_of, item_of, items_of, play_of}
 use Rattle.simulation.specs.Stand.{test_no}
 
 -- either way
@@ -187,15 +189,20 @@ still_declare s env n m h = still_times (declaration_of s env) m (still_declarat
 
 pub still_item : (it : Item) (p : Parts) (m : Mach) → Halted m → item_of it p m ≡ m
 unfolding item_of then
-still_item it p m h = test-both (eqb it.kind 1) _ _ m (still_expect _ _ _ m h) (still_make _ _ _ m h)
+still_item Unknown p m h = still_make 0x4E 0 0 m h
+still_item Boolean p m h = still_make 0x40 0 0 m h
+still_item Integer p m h = still_make 0x41 0 0 m h
+still_item (Power x) p m h = still_make 0x43 (chosen_of x p).0 0 m h
+still_item (Product x y) p m h = still_make 0x44 (chosen_of x p).0 (chosen_of y p).0 m h
+still_item (Equal x y seat) p m h = still_expect (chosen_of x p).0 (chosen_of y p).0 (place_of seat p).0 m h
 
-pub still_items : (p : Parts) (n i : ℕ) (m : Mach) → Halted m → items_of p n i m ≡ m
-unfolding items_of then
-still_items p zero i m h = refl
-still_items p (suc n) i m h = ap (items_of p n (i + 1)) (still_item (item_at i) p m h) ∙ still_items p n (i + 1) m h
+pub still_items : (p : Parts) (its : List Item) (m : Mach) → Halted m → items_of p its m ≡ m
+unfolding items_of
+still_items p [] m h = refl
+still_items p (it ∷ its) m h = ap (items_of p its) (still_item it p m h) ∙ still_items p its m h
 
-pub still_play : (n : ℕ) (p : Parts) (m : Mach) → Halted m → play_of n p m ≡ m
+pub still_play : (n : Script) (p : Parts) (m : Mach) → Halted m → play_of n p m ≡ m
 unfolding play_of then
 still_play n p m h =
-    ap (λ (a : Mach). with_st (gave_of (chosen_of (script_at n).gives p).0 a.st) a) (still_items p ((script_at n).until - (script_at n).from) (script_at n).from m h)
-    ∙ still_within (gave_of (chosen_of (script_at n).gives p).0) m (still_gave (chosen_of (script_at n).gives p).0 m.st h)
+    ap (λ (a : Mach). with_st (gave_of (chosen_of (given_by n) p).0 a.st) a) (still_items p (items_in n) m h)
+    ∙ still_within (gave_of (chosen_of (given_by n) p).0) m (still_gave (chosen_of (given_by n) p).0 m.st h)
