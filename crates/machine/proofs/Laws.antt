@@ -3,23 +3,33 @@
 use Rattle.std.proofs.Common.{ℕ, zero, suc, ◌+◌, ◌-◌, ◌*◌, ◌≤◌, ◌<◌, sym, arith, sub-one, length-take-le, List, [], ◌∷◌, ◌++◌, lt-ltb, le-ltb, ◌≡◌, ap, ap₂, ◌∙◌, refl, eqb, length, take, drop, set, mul-le-mul_right, le_of_lt, drop_of_length-le}
 use Rattle.std.proofs.Math.Decide.{dec_lt}
 use Rattle.std.proofs.Math.Seq.{take_all, take_at, drop_at, set_out}
-use Rattle.std.proofs.lemmas.List.{take-set-le, drop-set-add}
+use Rattle.std.proofs.lemmas.List.{take-set-le, drop-set-add, drop_more}
 use Rattle.meter.specs.Meter.{Out, M, ret, fail}
 use Rattle.unification.specs.Arena as A
 use Rattle.unification.specs.Make.{build}
-use Rattle.makers.specs.declared.Made.{Made}
-use Rattle.makers.specs.declared.Made.TheVariants as Ma
-use Rattle.unifier.specs.declared.Unified.{Unified}
-use Rattle.unifier.specs.declared.Unified.TheVariants as Un
+use Rattle.unification.specs.Nodes.{node_is}
+use Rattle.types.specs.declared.NodeRef.{NodeRef}
+use Rattle.types.specs.declared.Node.{Node}
+use Rattle.types.specs.declared.Node.TheVariants.{Unknown, Leaf, Power, Product}
+use Rattle.types.specs.declared.Atom.TheVariants as At
+use Rattle.types.specs.Code.{atom_is}
+use Rattle.makers.specs.declared.MakeError.{MakeError}
+use Rattle.makers.specs.declared.MakeError.TheVariants as Ma
+use Rattle.unifier.specs.declared.Halt.{Halt}
+use Rattle.unifier.specs.declared.Halt.TheVariants as Ha
+use Rattle.unifier.specs.declared.Verdict.{Verdict}
+use Rattle.unifier.specs.declared.Verdict.TheVariants as Ve
+use Rattle.machine.specs.Still.{test_eq, still_items}
+use Rattle.std.specs.Prelude.{Result, Ok, Err, get_or}
 use Rattle.makers.specs.Answers.{made}
 use Rattle.unifier.specs.Answers.{settled}
 use Rattle.machine.specs.State.{State}
 use Rattle.forms.specs.Forms.{test, then}
+use Rattle.operators.specs.declared.Item.{Item}
 use Rattle.machine.specs.declared.Parts.{Parts}
-use Rattle.machine.specs.Seen.{machine}
+use Rattle.machine.specs.Seen.{machine, made_of, unmade, halted, stop_number}
 use Rattle.machine.specs.declared.Machine.{Machine}
-use Rattle.machine.specs.Types.{type_head, skip_by, skip_of, lift_by, lift_of, notes_by, notes_of, times_of}
-use Rattle.operators.specs.Operators.{item_at}
+use Rattle.machine.specs.Types.{atom_of, type_head, skip_by, skip_of, lift_by, lift_of, notes_by, notes_of, times_of}
 use Rattle.machine.specs.Scripts.{item_of, items_of}
 use Rattle.machine.specs.Machine.{Mach, mach, whole, with_st, on_st, expect_of, smaller, stopped_of, grown_of, left_of, grown_by, settled_by, judged_by, list_of, put_of, make_of}
 
@@ -76,54 +86,63 @@ lent_by size n w last (no l) e h =
 pub lent : (size n : ℕ) (w last : List ℕ) → n ≡ smaller size (length w) → length last ≡ length (take n w) → Lent size n w last
 lent size n w last e h = lent_by size n w last (dec_lt size (length w)) e h
 
-pub lent_push : (r : Made) (size n count : ℕ) (w last : List ℕ) (d e : A.Node) → Lent size n w last → made r last ≡ build (take n w) count d → d ≡ e
-    → (made r (take size (last ++ drop n w)) ≡ build (take size w) count e) × (drop size (last ++ drop n w) ≡ drop size w)
-lent_push r size n count w last d e h k q = (ap (made r) h.front ∙ k ∙ ap₂ (λ (l : List ℕ) (x : A.Node). build l count x) h.part q, h.behind)
+pub lent_push : (r : Result NodeRef MakeError) (size n count : ℕ) (w last : List ℕ) (d : A.Node) → Lent size n w last → made r last ≡ build (take n w) count d
+    → (made r (take size (last ++ drop n w)) ≡ build (take size w) count d) × (drop size (last ++ drop n w) ≡ drop size w)
+lent_push r size n count w last d h k = (ap (made r) h.front ∙ k ∙ ap (λ (l : List ℕ). build l count d) h.part, h.behind)
 
-pub lent-unify : (r : Unified) (size n count a b budget : ℕ) (w last : List ℕ) → Lent size n w last → settled r last ≡ A.unify count (take n w, a, b) budget
-    → (settled r (take size (last ++ drop n w)) ≡ A.unify count (take size w, a, b) budget) × (drop size (last ++ drop n w) ≡ drop size w)
-lent-unify r size n count a b budget w last h k = (ap (settled r) h.front ∙ k ∙ ap (λ (l : List ℕ). A.unify count (l, a, b) budget) h.part, h.behind)
+pub lent-unify : (r : Result Verdict Halt) (left size n count a b budget : ℕ) (w last : List ℕ) → Lent size n w last → settled r left last ≡ A.unify count (take n w, a, b) budget
+    → (settled r left (take size (last ++ drop n w)) ≡ A.unify count (take size w, a, b) budget) × (drop size (last ++ drop n w) ≡ drop size w)
+lent-unify r left size n count a b budget w last h k = (ap (settled r left) h.front ∙ k ∙ ap (λ (l : List ℕ). A.unify count (l, a, b) budget) h.part, h.behind)
 
 -- ---- what the unifier's answers do: m is the machine before, w the work slice after
-abbrev pub made_next : Made → Mach → Mach
-made_next (Ma.At t) m = on_st (grown_of t.0) m
-made_next Ma.Full m = on_st (stopped_of 6) m
-made_next Ma.Broken m = on_st (stopped_of 2) m
+abbrev pub made_next : Result NodeRef MakeError → Mach → Mach
+made_next (Ok t) m = on_st (grown_of t.0) m
+made_next (Err e) m = on_st (stopped_of (stop_number (unmade e))) m
 
-by_made : (x : Made) (a c b d out : List ℕ) (v : State) → d ≡ b → grown_by (made x c 0) (whole v a b out) ≡ made_next x (whole v c d out)
+by_made : (x : Result NodeRef MakeError) (a c b d out : List ℕ) (v : State) → d ≡ b → grown_by (made x c 0) (whole v a b out) ≡ made_next x (whole v c d out)
 unfolding grown_by then ret fail
-by_made (Ma.At t) a c b d out v e = ap (λ (l : List ℕ). whole (grown_of t.0 v) c l out) (sym e)
-by_made Ma.Full a c b d out v e = ap (λ (l : List ℕ). whole (stopped_of 6 v) c l out) (sym e)
-by_made Ma.Broken a c b d out v e = ap (λ (l : List ℕ). whole (stopped_of 2 v) c l out) (sym e)
+by_made (Ok t) a c b d out v e = ap (λ (l : List ℕ). whole (grown_of t.0 v) c l out) (sym e)
+by_made (Err Ma.Full) a c b d out v e = ap (λ (l : List ℕ). whole (stopped_of 6 v) c l out) (sym e)
+by_made (Err Ma.Broken) a c b d out v e = ap (λ (l : List ℕ). whole (stopped_of 2 v) c l out) (sym e)
 
-pub makes : (m : Machine) (k a b : ℕ) (x : Made) (w : List ℕ) → drop m.size w ≡ drop m.size m.work.now → made x (take m.size w) ≡ build (take m.size m.work.now) m.nodes (A.decode k a b)
-    → make_of k a b (machine m) ≡ made_next x (mach m.size (machine m).st w m.output.now)
-unfolding make_of test
-makes m k a b x w d e =
-    ap (λ (f : M (List ℕ) (ℕ × List ℕ)). grown_by (f 0) (machine m)) (sym e)
+made_by : (node : Node) (m : Mach) → m.st.stop ≡ 0 → made_of node m ≡ grown_by (build m.arena m.st.nodes (node_is node) 0) m
+unfolding make_of atom_of atom_is
+made_by Unknown m h = test_eq m.st.stop 0 _ _ h
+made_by (Leaf At.Bool) m h = test_eq m.st.stop 0 _ _ h
+made_by (Leaf At.Integer) m h = test_eq m.st.stop 0 _ _ h
+made_by (Leaf (At.Given x)) m h = test_eq m.st.stop 0 _ _ h
+made_by (Power x) m h = test_eq m.st.stop 0 _ _ h
+made_by (Product x y) m h = test_eq m.st.stop 0 _ _ h
+
+pub makes : (m : Machine) (node : Node) (x : Result NodeRef MakeError) (w : List ℕ) → drop m.size w ≡ drop m.size m.work.now → made x (take m.size w) ≡ build (take m.size m.work.now) m.nodes (node_is node)
+    → made_of node (machine m) ≡ made_next x (mach m.size (machine m).st w m.output.now)
+makes m node x w d e =
+    made_by node (machine m) refl ∙ ap (λ (f : M (List ℕ) (ℕ × List ℕ)). grown_by (f 0) (machine m)) (sym e)
     ∙ by_made x (take m.size m.work.now) (take m.size w) (drop m.size m.work.now) (drop m.size w) m.output.now (machine m).st d
 
-abbrev pub settled_next : Unified → ℕ → Mach → Mach
-settled_next (Un.Done l) p m = on_st (left_of l) m
-settled_next (Un.Mismatch l) p m = list_of 0 p 0xFFFF (on_st (left_of l) m)
-settled_next (Un.Circular l) p m = list_of 1 p 0xFFFF (on_st (left_of l) m)
-settled_next Un.Spent p m = on_st (stopped_of 7) m
-settled_next Un.Broken p m = on_st (stopped_of 2) m
+abbrev pub verdict_next : Verdict → ℕ → Mach → Mach
+verdict_next Ve.Done p m = m
+verdict_next Ve.Mismatch p m = list_of 0 p 0xFFFF m
+verdict_next Ve.Circular p m = list_of 1 p 0xFFFF m
 
-by_settled : (x : Unified) (p : ℕ) (a c b d out : List ℕ) (v : State) → d ≡ b → settled_by (settled x c) p (whole v a b out) ≡ settled_next x p (whole v c d out)
+abbrev pub settled_next : Result Verdict Halt → ℕ → ℕ → Mach → Mach
+settled_next (Ok v) l p m = verdict_next v p (on_st (left_of l) m)
+settled_next (Err h) l p m = on_st (stopped_of (stop_number (halted h))) m
+
+by_settled : (x : Result Verdict Halt) (r p : ℕ) (a c b d out : List ℕ) (v : State) → d ≡ b → settled_by (settled x r c) p (whole v a b out) ≡ settled_next x r p (whole v c d out)
 unfolding settled_by judged_by then
-by_settled (Un.Done r) p a c b d out v e = ap (λ (l : List ℕ). whole (left_of r v) c l out) (sym e)
-by_settled (Un.Mismatch r) p a c b d out v e = ap (λ (l : List ℕ). list_of 0 p 0xFFFF (whole (left_of r v) c l out)) (sym e)
-by_settled (Un.Circular r) p a c b d out v e = ap (λ (l : List ℕ). list_of 1 p 0xFFFF (whole (left_of r v) c l out)) (sym e)
-by_settled Un.Spent p a c b d out v e = ap (λ (l : List ℕ). whole (stopped_of 7 v) c l out) (sym e)
-by_settled Un.Broken p a c b d out v e = ap (λ (l : List ℕ). whole (stopped_of 2 v) c l out) (sym e)
+by_settled (Ok Ve.Done) r p a c b d out v e = ap (λ (l : List ℕ). whole (left_of r v) c l out) (sym e)
+by_settled (Ok Ve.Mismatch) r p a c b d out v e = ap (λ (l : List ℕ). list_of 0 p 0xFFFF (whole (left_of r v) c l out)) (sym e)
+by_settled (Ok Ve.Circular) r p a c b d out v e = ap (λ (l : List ℕ). list_of 1 p 0xFFFF (whole (left_of r v) c l out)) (sym e)
+by_settled (Err Ha.Spent) r p a c b d out v e = ap (λ (l : List ℕ). whole (stopped_of 7 v) c l out) (sym e)
+by_settled (Err Ha.Broken) r p a c b d out v e = ap (λ (l : List ℕ). whole (stopped_of 2 v) c l out) (sym e)
 
-pub expects : (m : Machine) (a b p : ℕ) (x : Unified) (w : List ℕ) → drop m.size w ≡ drop m.size m.work.now → settled x (take m.size w) ≡ A.unify m.nodes (take m.size m.work.now, a, b) m.budget
-    → expect_of a b p (machine m) ≡ settled_next x p (mach m.size (machine m).st w m.output.now)
+pub expects : (m : Machine) (a b p : ℕ) (x : Result Verdict Halt) (left : ℕ) (w : List ℕ) → drop m.size w ≡ drop m.size m.work.now
+    → settled x left (take m.size w) ≡ A.unify m.nodes (take m.size m.work.now, a, b) m.budget → expect_of a b p (machine m) ≡ settled_next x left p (mach m.size (machine m).st w m.output.now)
 unfolding expect_of test
-expects m a b p x w d e =
+expects m a b p x left w d e =
     ap (λ (o : Out (List ℕ) A.Answer). settled_by o p (machine m)) (sym e)
-    ∙ by_settled x p (take m.size m.work.now) (take m.size w) (drop m.size m.work.now) (drop m.size w) m.output.now (machine m).st d
+    ∙ by_settled x left p (take m.size m.work.now) (take m.size w) (drop m.size m.work.now) (drop m.size w) m.output.now (machine m).st d
 
 -- ---- the book
 pub put-inside : (size i x : ℕ) (st : State) (w out : List ℕ) → mach size st (set w (size + i) x) out ≡ put_of i x (mach size st w out)
@@ -173,12 +192,16 @@ pub times_turn : (f : Mach → Mach) (n i : ℕ) (m : Mach) → i < n → times_
 unfolding times_of
 times_turn f n i m l = let e : n - i ≡ suc (n - (i + 1)) = omega arith in rw e
 
-pub items_end : (p : Parts) (u i : ℕ) (m : Mach) → u ≤ i → items_of p (u - i) i m ≡ m
+pub items_end : (p : Parts) (its : List Item) (i : ℕ) (m : Mach) → length its ≤ i → items_of p (drop i its) m ≡ m
 unfolding items_of
-items_end p u i m l = let e : u - i ≡ 0 = omega arith in rw e
+items_end p its i m l = ap (λ (k : List Item). items_of p k m) (drop_of_length-le its {i = i} l)
 
-pub items_turn : (p : Parts) (u i : ℕ) (m : Mach) → i < u → items_of p (u - i) i m ≡ items_of p (u - (i + 1)) (i + 1) (then (item_at i) λ it. item_of it p m)
+pub items_turn : (p : Parts) (its : List Item) (i : ℕ) (d : Item) (m : Mach) → i < length its → items_of p (drop i its) m ≡ items_of p (drop (i + 1) its) (item_of (get_or its i d) p m)
 unfolding items_of
-items_turn p u i m l = let e : u - i ≡ suc (u - (i + 1)) = omega arith in rw e
+items_turn p its i d m l = ap (λ (k : List Item). items_of p k m) (drop_more its i d l)
+
+-- a script that stops at an item
+pub items_stop : (p : Parts) (its : List Item) (i : ℕ) (d : Item) (m x z : Mach) → i < length its → x ≡ item_of (get_or its i d) p m → (x.st.stop ≡ 0 → ⊥) → items_of p (drop i its) m ≡ z → z ≡ x
+items_stop p its i d m x z l e h q = sym q ∙ items_turn p its i d m l ∙ ap (items_of p (drop (i + 1) its)) (sym e) ∙ still_items p (drop (i + 1) its) x h
 
 pub ruleset turns = (times_end, times_turn, items_end, items_turn)

@@ -2,7 +2,15 @@
 use Rattle.std.specs.Prelude.{ℕ, ◌≡◌, Option, Some, None, Result, Ok, Err}
 use Rattle.std.proofs.Common.{arith}
 use Rattle.types.specs.declared.Name.{Name}
-use Rattle.machine.specs.Machine.{Mach, mach}
+use Rattle.types.specs.declared.Node.{Node}
+use Rattle.types.specs.declared.Node.TheVariants.{Unknown, Leaf, Power, Product}
+use Rattle.types.specs.Code.{atom_is}
+use Rattle.makers.specs.declared.MakeError.{MakeError}
+use Rattle.makers.specs.declared.MakeError.TheVariants as Ma
+use Rattle.unifier.specs.declared.Halt.{Halt}
+use Rattle.unifier.specs.declared.Halt.TheVariants as Ha
+use Rattle.machine.specs.Machine.{Mach, mach, make_of}
+use Rattle.machine.specs.Types.{atom_of}
 use Rattle.machine.specs.Still.{still_placed, still_gave, still_bound, still_skip, still_list, still_make, still_atom, still_expect, still_leave, still_remember, still_enrol, still_push, still_lift, still_noted, still_notes, still_meets, still_claim, still_declare, still_items, still_play}
 use Rattle.machine.specs.declared.Machine.{Machine}
 use Rattle.machine.specs.declared.Problem.{Problem}
@@ -28,6 +36,22 @@ machine m = stopped_at 0 m
 abbrev pub walked : Result (Unit {0}) Stop → Machine → Mach
 walked (Ok x) m = stopped_at 0 m
 walked (Err e) m = stopped_at (stop_number e) m
+
+-- a maker's refusal and the unifier's, as a stop
+abbrev pub unmade : MakeError → Stop
+unmade Ma.Full = S.Full
+unmade Ma.Broken = S.Broken
+
+abbrev pub halted : Halt → Stop
+halted Ha.Spent = S.Spent
+halted Ha.Broken = S.Broken
+
+-- a node made
+abbrev pub made_of : Node → Mach → Mach
+made_of Unknown m = make_of 0x4E 0 0 m
+made_of (Leaf a) m = atom_of (atom_is a) m
+made_of (Power x) m = make_of 0x43 x.0 0 m
+made_of (Product x y) m = make_of 0x44 x.0 y.0 m
 
 -- what no step changes: what is read, the arena's size, and which memory is lent
 pub record Kept (a b : Machine) : Type 0 where

@@ -1,25 +1,24 @@
 -- A stopped machine stays as it is: every step of it is then no step.
 -- After this file a sequence of steps may be cut after its first stop: what comes later changes nothing.
-use Rattle.std.specs.Prelude.{ℕ, zero, suc, ◌+◌, ◌-◌, ◌/◌, ◌%◌, ◌≡◌, refl, Bool, true, false, List, eqb, ltb, leb, ◌<◌, ◌≤◌}
+use Rattle.std.specs.Prelude.{Option, Some, None, ℕ, zero, suc, ◌+◌, ◌/◌, ◌%◌, ◌≡◌, refl, Bool, true, false, List, [], ◌∷◌, eqb, ltb, leb, ◌<◌, ◌≤◌}
 use Rattle.std.proofs.Common.{◌∙◌, ap, eq-eqb, ne_eqb, lt-ltb, le-ltb, le-leb}
 use Rattle.std.proofs.lemmas.Bool.{lt-leb}
-use Rattle.heads.specs.declared.Byte.{Byte}
-use Rattle.heads.specs.declared.Byte.TheVariants.{Missing, Of}
 use Rattle.heads.specs.declared.DeclHead.{DeclHead}
 use Rattle.heads.specs.declared.DeclHead.TheVariants.{Plain, Typed, Annotated}
-use Rattle.heads.specs.declared.DeclAt.{DeclAt}
-use Rattle.heads.specs.declared.DeclAt.TheVariants.{Wrong, Is}
+use Rattle.types.specs.declared.Place.{Place}
 use Rattle.types.specs.Record.{reach}
 use Rattle.types.specs.Ty.{Atom, bool, int, given}
 use Rattle.heads.specs.Heads.{byte_at, decl_head, decl_end}
 use Rattle.machine.specs.State.{State}
+use Rattle.operators.specs.declared.Script.{Script}
 use Rattle.operators.specs.declared.Item.{Item}
+use Rattle.operators.specs.declared.Item.TheVariants.{Unknown, Boolean, Integer, Power, Product, Equal}
 use Rattle.machine.specs.declared.Parts.{Parts}
 use Rattle.forms.specs.Forms.{test, then}
 use Rattle.machine.specs.Machine.{Mach, with_st, stopped_of, placed_of, gave_of, bound_of, paid_of, enter_of, emit_of, two_of, four_of, list_of, make_of, expect_of, leave_of, remember_of, enrol_of, push_bound_of}
 use Rattle.machine.specs.Types.{skip_of, atom_of, lift_of, note_of, noted_of, free_of, bound_identifier_of, notes_of, meets_of, spelled_of, ascription_by, ascription_of, annotation_by, claim_of, declaration_by, declaration_of, times_of, declare_of}
-use Rattle.operators.specs.Operators.{script_at, item_at}
-use Rattle.machine.specs.Scripts.{chosen_of, item_of, items_of, play_of}
+use Rattle.operators.specs.Scripts.{items_in, given_by}
+use Rattle.machine.specs.Scripts.{chosen_of, place_of, item_of, items_of, play_of}
 
 -- a test whose outcome is known
 pub test_yes : {A : Type 0} (c : Bool) (x y : Unit {0} → A) → c ≡ true → test c x y ≡ x tt
@@ -185,22 +184,22 @@ still_spelled s env x q p m h =
     ap (λ (a : Mach). meets_of s x p (with_st (placed_of m.st.at.0 a.st) a)) (still_notes 65 s env q m h)
     ∙ ap (λ (v : State). meets_of s x p (with_st v m)) (still_placed m.st.at.0 m.st h) ∙ still_meets s x p m h
 
-still_asked : (s env : List ℕ) (x p : ℕ) (b : Byte) (m : Mach) → Halted m → ascription_by s env x p b m ≡ m
+still_asked : (s env : List ℕ) (x p : ℕ) (b : Option (ℕ × Place)) (m : Mach) → Halted m → ascription_by s env x p b m ≡ m
 unfolding ascription_by then
-still_asked s env x p Missing m h = still_within (stopped_of 2) m (still_stopped 2 m.st h)
-still_asked s env x p (Of k e) m h =
-    test-both (eqb k 0x4F) _ _ m
-    (ap (λ (a : Mach). with_st (placed_of e.0 a.st) a) (still_list 0 m.st.at.0 0xFFFF m h) ∙ still_within (placed_of e.0) m (still_placed e.0 m.st h))
+still_asked s env x p None m h = still_within (stopped_of 2) m (still_stopped 2 m.st h)
+still_asked s env x p (Some b) m h =
+    test-both (eqb b.0 0x4F) _ _ m
+    (ap (λ (a : Mach). with_st (placed_of b.1.0 a.st) a) (still_list 0 m.st.at.0 0xFFFF m h) ∙ still_within (placed_of b.1.0) m (still_placed b.1.0 m.st h))
     (still_spelled s env x m.st.at.0 p m h)
 
 pub still_ascription : (s env : List ℕ) (x p : ℕ) (m : Mach) → Halted m → ascription_of s env x p m ≡ m
 unfolding ascription_of then
 still_ascription s env x p m h = still_asked s env x p (byte_at (reach s) m.st.at) m h
 
-still_annotation : (s env : List ℕ) (x p : ℕ) (b : Byte) (m : Mach) → Halted m → annotation_by s env x p b m ≡ m
+still_annotation : (s env : List ℕ) (x p : ℕ) (b : Option (ℕ × Place)) (m : Mach) → Halted m → annotation_by s env x p b m ≡ m
 unfolding annotation_by then
-still_annotation s env x p Missing m h = still_within (stopped_of 2) m (still_stopped 2 m.st h)
-still_annotation s env x p (Of k e) m h = test-both (eqb k 0x4F) _ _ m (still_within (placed_of e.0) m (still_placed e.0 m.st h)) (still_spelled s env x p p m h)
+still_annotation s env x p None m h = still_within (stopped_of 2) m (still_stopped 2 m.st h)
+still_annotation s env x p (Some b) m h = test-both (eqb b.0 0x4F) _ _ m (still_within (placed_of b.1.0) m (still_placed b.1.0 m.st h)) (still_spelled s env x p p m h)
 
 pub still_claim : (s env : List ℕ) (k : DeclHead) (x p : ℕ) (m : Mach) → Halted m → claim_of s env k x p m ≡ m
 unfolding claim_of then
@@ -208,10 +207,10 @@ still_claim s env (Plain e) x p m h = refl
 still_claim s env (Typed e) x p m h = still_meets s x p m h
 still_claim s env (Annotated e) x p m h = still_annotation s env x p (byte_at (reach s) m.st.at) m h
 
-still_headed : (s env : List ℕ) (k : DeclAt) (m : Mach) → Halted m → declaration_by s env k m ≡ m
+still_headed : (s env : List ℕ) (k : Option DeclHead) (m : Mach) → Halted m → declaration_by s env k m ≡ m
 unfolding declaration_by then
-still_headed s env Wrong m h = still_within (stopped_of 2) m (still_stopped 2 m.st h)
-still_headed s env (Is k) m h =
+still_headed s env None m h = still_within (stopped_of 2) m (still_stopped 2 m.st h)
+still_headed s env (Some k) m h =
     let q : ℕ = (decl_end k).0 in
     ap (λ (v : State). (let b = make_of 0x4E 0 0 (with_st (placed_of q v) m) in claim_of s env k b.st.last.0 m.st.at.0 (push_bound_of (leave_of m.st.slots m.st.at.0 b)))) (still_enter m.st h)
     ∙ ap (λ (v : State). (let b = make_of 0x4E 0 0 (with_st v m) in claim_of s env k b.st.last.0 m.st.at.0 (push_bound_of (leave_of m.st.slots m.st.at.0 b)))) (still_placed q m.st h)
@@ -234,15 +233,20 @@ still_declare s env n m h = still_times (declaration_of s env) m (still_declarat
 
 pub still_item : (it : Item) (p : Parts) (m : Mach) → Halted m → item_of it p m ≡ m
 unfolding item_of then
-still_item it p m h = test-both (eqb it.kind 1) _ _ m (still_expect _ _ _ m h) (still_make _ _ _ m h)
+still_item Unknown p m h = still_make 0x4E 0 0 m h
+still_item Boolean p m h = still_make 0x40 0 0 m h
+still_item Integer p m h = still_make 0x41 0 0 m h
+still_item (Power x) p m h = still_make 0x43 (chosen_of x p).0 0 m h
+still_item (Product x y) p m h = still_make 0x44 (chosen_of x p).0 (chosen_of y p).0 m h
+still_item (Equal x y seat) p m h = still_expect (chosen_of x p).0 (chosen_of y p).0 (place_of seat p).0 m h
 
-pub still_items : (p : Parts) (n i : ℕ) (m : Mach) → Halted m → items_of p n i m ≡ m
-unfolding items_of then
-still_items p zero i m h = refl
-still_items p (suc n) i m h = ap (items_of p n (i + 1)) (still_item (item_at i) p m h) ∙ still_items p n (i + 1) m h
+pub still_items : (p : Parts) (its : List Item) (m : Mach) → Halted m → items_of p its m ≡ m
+unfolding items_of
+still_items p [] m h = refl
+still_items p (it ∷ its) m h = ap (items_of p its) (still_item it p m h) ∙ still_items p its m h
 
-pub still_play : (n : ℕ) (p : Parts) (m : Mach) → Halted m → play_of n p m ≡ m
+pub still_play : (n : Script) (p : Parts) (m : Mach) → Halted m → play_of n p m ≡ m
 unfolding play_of then
 still_play n p m h =
-    ap (λ (a : Mach). with_st (gave_of (chosen_of (script_at n).gives p).0 a.st) a) (still_items p ((script_at n).until - (script_at n).from) (script_at n).from m h)
-    ∙ still_within (gave_of (chosen_of (script_at n).gives p).0) m (still_gave (chosen_of (script_at n).gives p).0 m.st h)
+    ap (λ (a : Mach). with_st (gave_of (chosen_of (given_by n) p).0 a.st) a) (still_items p (items_in n) m h)
+    ∙ still_within (gave_of (chosen_of (given_by n) p).0) m (still_gave (chosen_of (given_by n) p).0 m.st h)

@@ -4,21 +4,21 @@
 
 ghost use Rattle.std.specs.Prelude.{◌≡◌, ℕ, ◌+◌, ◌*◌, ◌-◌, ◌<◌, ◌≤◌, List, length, get_or, take, drop, set};
 ghost use Rattle.types.specs.Code.{atom_is};
-ghost use Rattle.heads.specs.declared.DeclAt.TheVariants.{Is};
-ghost use Rattle.unification.specs.Arena.{decode, unify, solved};
+ghost use Rattle.unification.specs.Arena.{unify, solved};
 ghost use Rattle.unification.specs.Make.{build};
+ghost use Rattle.unification.specs.Nodes.{node_is};
 ghost use Rattle.makers.specs.Answers.{made};
 ghost use Rattle.unifier.specs.Answers.{settled, told};
 ghost use Rattle.machine.specs.Machine.{mach, on_st, smaller, start_of, placed_of, passed_of, gave_of, bound_of, paid_of, enter_of, grown_of, cell, word_of, put_of, emit_of, two_of, four_of, list_of, make_of, expect_of, leave_of, remember_of, enrol_of, push_bound_of};
 ghost use Rattle.machine.specs.Types.{skip_of, atom_of, lift_of, free_of, bound_identifier_of, note_of, noted_of, notes_of, meets_of, spelled_of, ascription_of, claim_of, declaration_by, declaration_of, declare_of};
 ghost use Rattle.machine.specs.Scripts.{chosen_of, place_of, item_of, play_of, parts_of};
-ghost use Rattle.machine.specs.Seen.{machine, walked, problem_number, name_number, Kept};
+ghost use Rattle.machine.specs.Seen.{machine, walked, unmade, halted, made_of, problem_number, name_number, Kept};
 
-use heads::{Byte, DeclAt, DeclHead};
-use makers::Made;
-use operators::Item;
-use types::{Atom, Head, Name, NodeRef, Place};
-use unifier::{Told, Unified};
+use heads::DeclHead;
+use makers::MakeError;
+use operators::{Item, Operand, Script, Seat};
+use types::{Atom, Head, Name, Node, NodeRef, Place};
+use unifier::{Halt, Verdict};
 
 // ---- the machine
 
@@ -28,6 +28,28 @@ pub enum Stop {
     Full,
     Spent,
     Broken,
+}
+
+impl From<MakeError> for Stop {
+    ghost from_gives = { λ e stop. stop ≡ unmade e };
+
+    fn from(error: MakeError) -> Stop {
+        match error {
+            MakeError::Full => Stop::Full,
+            MakeError::Broken => Stop::Broken,
+        }
+    }
+}
+
+impl From<Halt> for Stop {
+    ghost from_gives = { λ h stop. stop ≡ halted h };
+
+    fn from(halt: Halt) -> Stop {
+        match halt {
+            Halt::Spent => Stop::Spent,
+            Halt::Broken => Stop::Broken,
+        }
+    }
 }
 
 #[derive(Drop)]
@@ -145,28 +167,27 @@ fn within(size: u32, most: usize) -> usize
     if n < most { n } else { most }
 }
 
-fn push(work: &mut [u32], size: u32, count: u32, kind: u32, a: u32, b: u32) -> Made
-    ensures work_after { made result (take size work.new) ≡ build (take size work.old) count (decode kind a b) }
+fn push(work: &mut [u32], size: u32, count: u32, node: Node) -> Result<NodeRef, MakeError>
+    ensures work_after { made result (take size work.new) ≡ build (take size work.old) count (node_is node) }
     ensures work_unchanged { drop size work.new ≡ drop size work.old }
 {
     let n = within(size, work.len());
-    match kind {
-        0x4E => makers::fresh(&mut work[..n], count),
-        0x40 => makers::boolean(&mut work[..n], count),
-        0x41 => makers::int(&mut work[..n], count),
-        0x42 => makers::given(&mut work[..n], count, Name(a)),
-        0x43 => makers::pow(&mut work[..n], count, NodeRef(a)),
-        0x44 => makers::prod(&mut work[..n], count, NodeRef(a), NodeRef(b)),
-        _ => Made::Broken,
-    }
+    makers::make(&mut work[..n], count, node)
 }
 
-fn unified(work: &mut [u32], size: u32, count: u32, a: NodeRef, b: NodeRef, budget: u64) -> Unified
-    ensures work_after { settled result (take size work.new) ≡ unify count (take size work.old, a.0, b.0) budget }
+fn unified(
+    work: &mut [u32],
+    size: u32,
+    count: u32,
+    a: NodeRef,
+    b: NodeRef,
+    left: &mut u64,
+) -> Result<Verdict, Halt>
+    ensures work_after { settled result left.new (take size work.new) ≡ unify count (take size work.old, a.0, b.0) left.old }
     ensures work_unchanged { drop size work.new ≡ drop size work.old }
 {
     let n = within(size, work.len());
-    unifier::unify(&mut work[..n], count, a, b, budget)
+    unifier::unify(&mut work[..n], count, a, b, left)
 }
 
 impl<'a> Machine<'a> {
@@ -369,24 +390,20 @@ impl Machine<'_> {
     // ---- the arena
 
     // Whether no unknown remains below a reference.
-    pub fn solved(&self, t: NodeRef) -> Told
-        ensures { told result ≡ solved (machine self.now).arena self.now.nodes t.0 self.now.budget }
+    pub fn solved(&self, t: NodeRef, left: &mut u64) -> Result<bool, Halt>
+        ensures { told result left.new ≡ solved (machine self.now).arena self.now.nodes t.0 left.old }
     {
         let n = within(self.size, self.work.len());
-        unifier::solved(&self.work[..n], self.nodes, t, self.budget)
+        unifier::solved(&self.work[..n], self.nodes, t, left)
     }
 
     // A node is made.
-    pub fn make(&mut self, kind: u32, a: u32, b: u32) -> Result<(), Stop>
-        ensures value { walked result self.new ≡ make_of kind a b (machine self.old) }
+    pub fn make(&mut self, node: Node) -> Result<(), Stop>
+        ensures value { walked result self.new ≡ made_of node (machine self.old) }
         ensures kept { Kept self.old self.new }
     {
-        let made = push(self.work, self.size, self.nodes, kind, a, b);
-        match made {
-            Made::At(r) => self.grown(r),
-            Made::Full => Err(Stop::Full),
-            Made::Broken => Err(Stop::Broken),
-        }
+        let r = push(self.work, self.size, self.nodes, node)?;
+        self.grown(r)
     }
 
     // Two references are made equal; where they cannot be, a problem is listed at the place.
@@ -394,25 +411,15 @@ impl Machine<'_> {
         ensures value { walked result self.new ≡ expect_of a.0 b.0 place.0 (machine self.old) }
         ensures kept { Kept self.old self.new }
     {
-        let ended = unified(self.work, self.size, self.nodes, a, b, self.budget);
-        match ended {
-            Unified::Done(left) => {
-                self.budget = left;
-                Ok(())
-            }
-            Unified::Mismatch(left) => {
-                self.budget = left;
-                self.list(Problem::Mismatch, place, None);
-                Ok(())
-            }
-            Unified::Circular(left) => {
-                self.budget = left;
-                self.list(Problem::Circular, place, None);
-                Ok(())
-            }
-            Unified::Spent => Err(Stop::Spent),
-            Unified::Broken => Err(Stop::Broken),
+        let mut left = self.budget;
+        let verdict = unified(self.work, self.size, self.nodes, a, b, &mut left)?;
+        self.budget = left;
+        match verdict {
+            Verdict::Done => {}
+            Verdict::Mismatch => self.list(Problem::Mismatch, place, None),
+            Verdict::Circular => self.list(Problem::Circular, place, None),
         }
+        Ok(())
     }
 
     // ---- slots, names, declarations
@@ -481,8 +488,8 @@ impl Machine<'_> {
         if left == 0 {
             return Err(Stop::Broken);
         }
-        match types::head_at(self.formula, types::MAX_NAMES, self.at.0 as usize) {
-            Head::Wrong => Err(Stop::Broken),
+        let at = self.at.0 as usize;
+        match types::head_at(self.formula, types::MAX_NAMES, at).ok_or(Stop::Broken)? {
             Head::Atomic(_, e) => self.passed(e),
             Head::Power(e) => {
                 self.passed(e)?;
@@ -496,19 +503,6 @@ impl Machine<'_> {
         }
     }
 
-    // A type without parts, as a node.
-    #[tactic(auto, using(crate::specs::Seen::still, crate::specs::Still::tests), unfolding(crate::specs::Types::atom_of, types::specs::Code::atom_is, forms::specs::Forms::then))]
-    fn atom(&mut self, a: Atom) -> Result<(), Stop>
-        ensures value { walked result self.new ≡ atom_of (atom_is a) (machine self.old) }
-        ensures kept { Kept self.old self.new }
-    {
-        match a {
-            Atom::Bool => self.make(0x40, 0, 0),
-            Atom::Integer => self.make(0x41, 0, 0),
-            Atom::Given(x) => self.make(0x42, x.0, 0),
-        }
-    }
-
     // The type record where the walk stands, as nodes: parts first, left first.
     #[tactic(auto, using(crate::specs::Seen::still, crate::specs::Still::tests, crate::proofs::Laws::levels), unfolding(crate::specs::Types::lift_by, crate::specs::Machine::stopped_of, forms::specs::Forms::then, types::specs::Code::head_is))]
     fn lift(&mut self, source: &[u8], left: u32) -> Result<(), Stop>
@@ -518,23 +512,23 @@ impl Machine<'_> {
         if left == 0 {
             return Err(Stop::Broken);
         }
-        match types::head_at(source, types::MAX_NAMES, self.at.0 as usize) {
-            Head::Wrong => Err(Stop::Broken),
+        let at = self.at.0 as usize;
+        match types::head_at(source, types::MAX_NAMES, at).ok_or(Stop::Broken)? {
             Head::Atomic(a, e) => {
                 self.passed(e)?;
-                self.atom(a)
+                self.make(Node::Leaf(a))
             }
             Head::Power(e) => {
                 self.passed(e)?;
                 self.lift(source, left - 1)?;
-                self.make(0x43, self.last.0, 0)
+                self.make(Node::Power(self.last))
             }
             Head::Product(e) => {
                 self.passed(e)?;
                 self.lift(source, left - 1)?;
                 let x = self.last;
                 self.lift(source, left - 1)?;
-                self.make(0x44, x.0, self.last.0)
+                self.make(Node::Product(x, self.last))
             }
         }
     }
@@ -551,7 +545,7 @@ impl Machine<'_> {
         }
         let entry = self.read(ENTRIES, name.0, 0);
         if entry == 0 {
-            self.make(0x4E, 0, 0)?;
+            self.make(Node::Unknown)?;
             self.remember(name);
             return self.enrol(name, place);
         }
@@ -575,11 +569,11 @@ impl Machine<'_> {
             return Ok(());
         }
         self.list(Problem::DanglingIndex, place, None);
-        self.make(0x4E, 0, 0)
+        self.make(Node::Unknown)
     }
 
     // A given name that a spelled type holds: where the environment lacks it, it must have the type of its own power set.
-    #[tactic(auto, using(crate::specs::Seen::still, crate::specs::Still::tests), unfolding(crate::specs::Types::note_of, forms::specs::Forms::then))]
+    #[tactic(auto, using(crate::specs::Seen::still, crate::specs::Still::tests), unfolding(crate::specs::Types::note_of, forms::specs::Forms::then, crate::specs::Types::atom_of, types::specs::Code::atom_is))]
     fn note(&mut self, name: Name, place: Place) -> Result<(), Stop>
         ensures value { walked result self.new ≡ note_of self.old.environment.now name.0 place.0 (machine self.old) }
         ensures kept { Kept self.old self.new }
@@ -590,8 +584,8 @@ impl Machine<'_> {
         }
         self.free_identifier(name, place)?;
         let t = self.last;
-        self.make(0x42, name.0, 0)?;
-        self.make(0x43, self.last.0, 0)?;
+        self.make(Node::Leaf(Atom::Given(name)))?;
+        self.make(Node::Power(self.last))?;
         self.expect(t, self.last, place)
     }
 
@@ -617,8 +611,8 @@ impl Machine<'_> {
         if left == 0 {
             return Err(Stop::Broken);
         }
-        match types::head_at(self.formula, types::MAX_NAMES, self.at.0 as usize) {
-            Head::Wrong => Err(Stop::Broken),
+        let at = self.at.0 as usize;
+        match types::head_at(self.formula, types::MAX_NAMES, at).ok_or(Stop::Broken)? {
             Head::Atomic(a, e) => {
                 self.passed(e)?;
                 self.noted(a, place)
@@ -664,15 +658,13 @@ impl Machine<'_> {
         ensures kept { Kept self.old self.new }
     {
         let at = self.at;
-        match heads::byte_at(self.formula, at) {
-            Byte::Missing => Err(Stop::Broken),
-            Byte::Of(0x4F, e) => {
-                self.list(Problem::Mismatch, at, None);
-                self.placed(e);
-                Ok(())
-            }
-            Byte::Of(_, _) => self.spelled(x, at, place),
+        let (k, e) = heads::byte_at(self.formula, at).ok_or(Stop::Broken)?;
+        if k == 0x4F {
+            self.list(Problem::Mismatch, at, None);
+            self.placed(e);
+            return Ok(());
         }
+        self.spelled(x, at, place)
     }
 
     // What a declaration's head says of its reference: nothing, a type, an annotation.
@@ -684,32 +676,15 @@ impl Machine<'_> {
         match h {
             DeclHead::Plain(_) => Ok(()),
             DeclHead::Typed(_) => self.meets(x, place),
-            DeclHead::Annotated(_) => match heads::byte_at(self.formula, self.at) {
-                Byte::Missing => Err(Stop::Broken),
-                Byte::Of(0x4F, e) => {
+            DeclHead::Annotated(_) => {
+                let (k, e) = heads::byte_at(self.formula, self.at).ok_or(Stop::Broken)?;
+                if k == 0x4F {
                     self.placed(e);
-                    Ok(())
+                    return Ok(());
                 }
-                Byte::Of(_, _) => self.spelled(x, place, place),
-            },
+                self.spelled(x, place, place)
+            }
         }
-    }
-
-    // One declaration, with its head.
-    #[tactic(auto, using(crate::specs::Seen::still, crate::specs::Still::tests), unfolding(crate::specs::Types::declaration_by, forms::specs::Forms::then))]
-    fn declared(&mut self, h: DeclHead) -> Result<(), Stop>
-        ensures value { walked result self.new ≡ declaration_by self.old.formula.now self.old.environment.now (Is h) (machine self.old) }
-        ensures kept { Kept self.old self.new }
-    {
-        let slot = self.slots;
-        let place = self.at;
-        self.enter()?;
-        self.placed(heads::decl_end(h));
-        self.make(0x4E, 0, 0)?;
-        let x = self.last;
-        self.leave(slot, place);
-        self.push_bound()?;
-        self.claim(h, x, place)
     }
 
     // One declaration.
@@ -718,10 +693,16 @@ impl Machine<'_> {
         ensures value { walked result self.new ≡ declaration_of self.old.formula.now self.old.environment.now (machine self.old) }
         ensures kept { Kept self.old self.new }
     {
-        match heads::decl_head(self.formula, self.at) {
-            DeclAt::Wrong => Err(Stop::Broken),
-            DeclAt::Is(h) => self.declared(h),
-        }
+        let slot = self.slots;
+        let place = self.at;
+        let h = heads::decl_head(self.formula, place).ok_or(Stop::Broken)?;
+        self.enter()?;
+        self.placed(heads::decl_end(h));
+        self.make(Node::Unknown)?;
+        let x = self.last;
+        self.leave(slot, place);
+        self.push_bound()?;
+        self.claim(h, x, place)
     }
 
     // n declarations.
@@ -749,23 +730,31 @@ impl Machine<'_> {
     }
 
     // One item: a node, or a comparison.
-    #[tactic(auto, using(crate::specs::Seen::still, crate::specs::Still::tests), unfolding(crate::specs::Scripts::item_of, forms::specs::Forms::then))]
+    #[tactic(auto, using(crate::specs::Seen::still, crate::specs::Still::tests), unfolding(crate::specs::Scripts::item_of, forms::specs::Forms::then, crate::specs::Types::atom_of, types::specs::Code::atom_is))]
     fn perform(&mut self, it: Item, p: Parts) -> Result<(), Stop>
         ensures value { walked result self.new ≡ item_of it p (machine self.old) }
         ensures kept { Kept self.old self.new }
     {
-        let x = chosen(it.x, p);
-        let y = chosen(it.y, p);
-        if it.kind == 1 {
-            return self.expect(x, y, place_of(it.at, p));
+        match it {
+            Item::Unknown => self.make(Node::Unknown),
+            Item::Boolean => self.make(Node::Leaf(Atom::Bool)),
+            Item::Integer => self.make(Node::Leaf(Atom::Integer)),
+            Item::Power(x) => self.make(Node::Power(chosen(x, p))),
+            Item::Product(x, y) => self.make(Node::Product(chosen(x, p), chosen(y, p))),
+            Item::Equal(x, y, seat) => self.expect(chosen(x, p), chosen(y, p), place_of(seat, p)),
         }
-        self.make(it.kind as u32, x.0, y.0)
     }
 
     // A script is played with its parts, at a record's place.
     #[tactic(auto, using(crate::specs::Seen::still, crate::proofs::Laws::turns), unfolding(crate::specs::Scripts::play_of, crate::specs::Scripts::parts_of, forms::specs::Forms::then))]
-    pub fn play(&mut self, n: u8, left: Part, right: Part, place: Place) -> Result<(), Stop>
-        ensures value { walked result self.new ≡ play_of n (parts_of left.node.0 left.place.0 right.node.0 right.place.0 place.0 (machine self.old).st) (machine self.old) }
+    pub fn play(
+        &mut self,
+        script: Script,
+        left: Part,
+        right: Part,
+        place: Place,
+    ) -> Result<(), Stop>
+        ensures value { walked result self.new ≡ play_of script (parts_of left.node.0 left.place.0 right.node.0 right.place.0 place.0 (machine self.old).st) (machine self.old) }
         ensures kept { Kept self.old self.new }
     {
         let p = Parts {
@@ -776,11 +765,10 @@ impl Machine<'_> {
             far: right.place,
             base: self.nodes,
         };
-        let script = operators::script_at(n);
-        for i in u32::from(script.from)..u32::from(script.until) {
-            self.perform(operators::item_at(i), p)?;
+        for item in script.items() {
+            self.perform(*item, p)?;
         }
-        self.gave(chosen(script.gives, p));
+        self.gave(chosen(script.gives(), p));
         Ok(())
     }
 }
@@ -803,34 +791,32 @@ pub struct Parts {
     pub base: u32,
 }
 
-// An operand: 0 where there is none, 1 and 2 the parts, 3 + j the script's own node j.
-fn chosen(code: u8, p: Parts) -> NodeRef
-    ensures { result ≡ chosen_of code p }
+// An operand: a part, or the script's own node.
+#[tactic(auto, using(forms::specs::Forms::yes_lt, forms::specs::Forms::no_lt), unfolding(crate::specs::Scripts::chosen_of))]
+fn chosen(operand: Operand, p: Parts) -> NodeRef
+    ensures { result ≡ chosen_of operand p }
 {
-    if code == 0 {
-        return NodeRef(0);
+    match operand {
+        Operand::Left => p.left,
+        Operand::Right => p.right,
+        Operand::Own(j) => {
+            let base = p.base;
+            if base < 65536 {
+                NodeRef(base + j as u32)
+            } else {
+                NodeRef(0)
+            }
+        }
     }
-    if code == 1 {
-        return p.left;
-    }
-    if code == 2 {
-        return p.right;
-    }
-    let base = p.base;
-    if base < 65536 {
-        return NodeRef(base + (code as u32 - 3));
-    }
-    NodeRef(0)
 }
 
-fn place_of(code: u8, p: Parts) -> Place
-    ensures { result ≡ place_of code p }
+#[tactic(auto, unfolding(crate::specs::Scripts::place_of))]
+fn place_of(seat: Seat, p: Parts) -> Place
+    ensures { result ≡ place_of seat p }
 {
-    if code == 0 {
-        return p.place;
+    match seat {
+        Seat::Whole => p.place,
+        Seat::Near => p.near,
+        Seat::Far => p.far,
     }
-    if code == 1 {
-        return p.near;
-    }
-    p.far
 }

@@ -1,7 +1,7 @@
 -- A stopped machine stays as it is: the walk's functions.
 -- After this file a walk that has stopped anywhere is over.
 use Prim.Native.Nat.{ℕ, zero, suc}
-use Rattle.std.specs.Prelude.{◌≡◌, List, false, eqb}
+use Rattle.std.specs.Prelude.{Option, Some, None, ◌≡◌, List, false, eqb}
 use Rattle.std.proofs.Math.Path.{refl, ap}
 use Rattle.std.proofs.Common.{◌∙◌}
 use Rattle.types.specs.Limits.{levels, max_names}
@@ -11,18 +11,18 @@ use Rattle.heads.specs.declared.ExprHead.{ExprHead}
 use Rattle.heads.specs.declared.ExprHead.TheVariants.{Free, Bound, Literal, Atomic, Extension, Truth, Binary, Associative, Unary, Quantified, Ascribed, Explicit}
 use Rattle.heads.specs.declared.PredHead.{PredHead}
 use Rattle.heads.specs.declared.PredHead.TheVariants.{Constant, Variable, Relational, Connective, Junction, Negation, Quantification, Simple, Multiple, Application}
-use Rattle.heads.specs.declared.ExprAt.{ExprAt}
-use Rattle.heads.specs.declared.ExprAt.TheVariants as EA
-use Rattle.heads.specs.declared.PredAt.{PredAt}
-use Rattle.heads.specs.declared.PredAt.TheVariants as PA
 use Rattle.types.specs.Record.{reach}
 use Rattle.heads.specs.Heads.{expr_head, pred_head}
 use Rattle.machine.specs.State.{State}
+use Rattle.operators.specs.declared.Script.{Script}
+use Rattle.operators.specs.declared.Script.TheVariants as Sc
+use Rattle.operators.specs.declared.Mode.{Mode}
+use Rattle.operators.specs.declared.Mode.TheVariants.{Loose, Same, Linked}
 use Rattle.operators.specs.declared.Plan.{Plan}
 use Rattle.forms.specs.Forms.{then}
 use Rattle.machine.specs.Machine.{Mach, with_st, stopped_of, placed_of, gave_of, bound_of, list_of, make_of, leave_of}
 use Rattle.machine.specs.Types.{skip_of, free_of, bound_identifier_of, meets_of, ascription_of, declare_of, times_of}
-use Rattle.operators.specs.Operators.{finite, check_atomic_of, check_binary_of, check_unary_of, check_quantified_of, check_relational_of, check_associative_of}
+use Rattle.operators.specs.Operators.{check_atomic_of, check_binary_of, check_unary_of, check_quantified_of, check_relational_of, check_associative_of}
 use Rattle.machine.specs.Scripts.{parts_of, play_of}
 use Rattle.walker.specs.Walk.{meet_of, next_of, one_by, two_by, child_by, children_by, all_by, quant_by, pred_quant_by, ascribed_by, typed_by, body_by, pred_body_by, extension_plan, multiple_plan, application_plan, halts, onto, entered_by, expr_by, pred_by, paid_by, owned_by, expr_of, pred_of}
 use Rattle.machine.specs.Still.{test-both, Halted, still_stopped, still_placed, still_gave, still_bound, still_paid, still_enter, still_skip, still_within, still_list, still_make, still_expect, still_leave, still_free, still_identifier, still_meets, still_ascription, still_declare, still_times, still_play}
@@ -30,9 +30,11 @@ use Rattle.machine.specs.Still.{test-both, Halted, still_stopped, still_placed, 
 abbrev pub Still : (Mach → Mach) → Type 0
 Still E = (m : Mach) → Halted m → E m ≡ m
 
-pub still_meet : (mode x y p : ℕ) (m : Mach) → Halted m → meet_of mode x y p m ≡ m
+pub still_meet : (mode : Mode) (x y p : ℕ) (m : Mach) → Halted m → meet_of mode x y p m ≡ m
 unfolding meet_of
-still_meet mode x y p m h = test-both (eqb mode 0) _ _ m refl (still_expect x y p m h)
+still_meet Loose x y p m h = refl
+still_meet Same x y p m h = still_expect x y p m h
+still_meet Linked x y p m h = still_expect x y p m h
 
 -- a place taken, and what follows it
 places : (i : Place) (F : Mach → Mach) (m : Mach) → Halted m → F m ≡ m → onto i F m ≡ m
@@ -44,11 +46,11 @@ unfolding then
 still_halts m h = still_within (stopped_of 2) m (still_stopped 2 m.st h)
 
 module _ (E : Mach → Mach) (e : Still E) where
-  pub still_one : (n p : ℕ) (m : Mach) → Halted m → one_by E n p m ≡ m
+  pub still_one : (n : Script) (p : ℕ) (m : Mach) → Halted m → one_by E n p m ≡ m
   unfolding one_by then
   still_one n p m h = ap (λ (a : Mach). play_of n (parts_of a.st.last.0 a.st.from.0 0 p p a.st) a) (e m h) ∙ still_play n (parts_of m.st.last.0 m.st.from.0 0 p p m.st) m h
 
-  pub still_two : (n p : ℕ) (m : Mach) → Halted m → two_by E n p m ≡ m
+  pub still_two : (n : Script) (p : ℕ) (m : Mach) → Halted m → two_by E n p m ≡ m
   unfolding two_by then
   still_two n p m h =
       ap (λ (a : Mach). (let b = E a in play_of n (parts_of a.st.last.0 a.st.from.0 b.st.last.0 b.st.from.0 p b.st) b)) (e m h)
@@ -100,7 +102,7 @@ module _ (E : Mach → Mach) (e : Still E) where
     pub still_quant : (o n : ℕ) (i : Place) (m : Mach) → Halted m → quant_by E P s env o n i m ≡ m
     unfolding quant_by then
     still_quant o n i m h =
-        let k : ℕ = check_quantified_of o in
+        let k : Script = check_quantified_of o in
         let C : Mach → Mach = (λ (c : Mach). with_st (bound_of m.st.bound c.st) c) in
         ap (λ (x : Mach). C (one_by E k m.st.at.0 (P (declare_of s env n x)))) (still_within (placed_of i.0) m (still_placed i.0 m.st h))
         ∙ ap (λ (x : Mach). C (one_by E k m.st.at.0 (P x))) (still_declare s env n m h)
@@ -141,7 +143,7 @@ module _ (E : Mach → Mach) (e : Still E) where
     still_pbody (Junction n i) m h = places i (times_of P n) m h (still_times P m (q m h) n)
     still_pbody (Negation i) m h = places i P m h (q m h)
     still_pbody (Quantification n i) m h = still_pquant n i m h
-    still_pbody (Simple i) m h = places i (one_by E finite m.st.at.0) m h (still_one finite m.st.at.0 m h)
+    still_pbody (Simple i) m h = places i (one_by E Sc.Finite m.st.at.0) m h (still_one Sc.Finite m.st.at.0 m h)
     still_pbody (Multiple n i) m h = places i (all_by E multiple_plan n) m h (still_all multiple_plan n m h)
     still_pbody (Application n i) m h = ap (list_of 5 m.st.at.0 0xFFFF) (places i (all_by E application_plan n) m h (still_all application_plan n m h)) ∙ still_list 5 m.st.at.0 0xFFFF m h
 
@@ -158,26 +160,26 @@ unfolding owned_by then
 still_ownedby f m h e = ap (λ (v : State). entered_by f v m) (still_enter m.st h) ∙ still_enteredby f m e
 
 module _ (m : Mach) (h : Halted m) where
-  still_exprby : (X : Place → Mach) (f : ExprHead → Mach) (a : ExprAt) → ((i : Place) → X i ≡ m) → ((g : ExprHead) → f g ≡ m) → expr_by X f a m ≡ m
+  still_exprby : (X : Place → Mach) (f : ExprHead → Mach) (a : Option ExprHead) → ((i : Place) → X i ≡ m) → ((g : ExprHead) → f g ≡ m) → expr_by X f a m ≡ m
   unfolding expr_by
-  still_exprby X f EA.Wrong x e = still_halts m h
-  still_exprby X f (EA.Is (Explicit i)) x e = x i
-  still_exprby X f (EA.Is (Free n i)) x e = e (Free n i)
-  still_exprby X f (EA.Is (Bound j i)) x e = e (Bound j i)
-  still_exprby X f (EA.Is (Literal i)) x e = e (Literal i)
-  still_exprby X f (EA.Is (Atomic o i)) x e = e (Atomic o i)
-  still_exprby X f (EA.Is (Extension n i)) x e = e (Extension n i)
-  still_exprby X f (EA.Is (Truth i)) x e = e (Truth i)
-  still_exprby X f (EA.Is (Binary o i)) x e = e (Binary o i)
-  still_exprby X f (EA.Is (Associative o n i)) x e = e (Associative o n i)
-  still_exprby X f (EA.Is (Unary o i)) x e = e (Unary o i)
-  still_exprby X f (EA.Is (Quantified o n i)) x e = e (Quantified o n i)
-  still_exprby X f (EA.Is (Ascribed i)) x e = e (Ascribed i)
+  still_exprby X f None x e = still_halts m h
+  still_exprby X f (Some (Explicit i)) x e = x i
+  still_exprby X f (Some (Free n i)) x e = e (Free n i)
+  still_exprby X f (Some (Bound j i)) x e = e (Bound j i)
+  still_exprby X f (Some (Literal i)) x e = e (Literal i)
+  still_exprby X f (Some (Atomic o i)) x e = e (Atomic o i)
+  still_exprby X f (Some (Extension n i)) x e = e (Extension n i)
+  still_exprby X f (Some (Truth i)) x e = e (Truth i)
+  still_exprby X f (Some (Binary o i)) x e = e (Binary o i)
+  still_exprby X f (Some (Associative o n i)) x e = e (Associative o n i)
+  still_exprby X f (Some (Unary o i)) x e = e (Unary o i)
+  still_exprby X f (Some (Quantified o n i)) x e = e (Quantified o n i)
+  still_exprby X f (Some (Ascribed i)) x e = e (Ascribed i)
 
-  still_predby : (f : PredHead → Mach) (a : PredAt) → ((g : PredHead) → f g ≡ m) → pred_by f a m ≡ m
+  still_predby : (f : PredHead → Mach) (a : Option PredHead) → ((g : PredHead) → f g ≡ m) → pred_by f a m ≡ m
   unfolding pred_by
-  still_predby f PA.Wrong e = still_halts m h
-  still_predby f (PA.Is g) e = e g
+  still_predby f None e = still_halts m h
+  still_predby f (Some g) e = e g
 
 mutual
   unfolding expr_of pred_of then

@@ -10,15 +10,16 @@ ghost use Rattle.walker.specs.Root.{pairs_of, products_of, belongs_of, becomes_i
 
 use heads::{ExprAt, ExprHead, PredAt, PredHead, RootAt};
 use machine::State;
-use operators::Plan;
+use operators::{Mode, Plan, Script};
 use types::{Name, NodeRef, Place};
 
 // A child against what it is compared with, unless the mode compares nothing.
+#[tactic(auto, unfolding(crate::specs::Walk::meet_of))]
 fn meet(
     work: &mut [u32],
     output: &mut [u8],
     size: u32,
-    mode: u8,
+    mode: Mode,
     x: NodeRef,
     y: NodeRef,
     place: Place,
@@ -26,20 +27,21 @@ fn meet(
 ) -> State
     ensures { mach size result work.new output.new ≡ meet_of mode x.0 y.0 place.0 (mach size st work.old output.old) }
 {
-    if mode == 0 {
-        return st;
+    match mode {
+        Mode::Loose => st,
+        Mode::Same | Mode::Linked => machine::expect(work, output, size, x, y, place, st),
     }
-    machine::expect(work, output, size, x, y, place, st)
 }
 
 // What the next child begins with.
-fn next(mode: u8, y: NodeRef, t: NodeRef) -> NodeRef
+#[tactic(auto, unfolding(crate::specs::Walk::next_of))]
+fn next(mode: Mode, y: NodeRef, t: NodeRef) -> NodeRef
     ensures { result ≡ next_of mode y t }
 {
-    if mode == 2 {
-        return t;
+    match mode {
+        Mode::Linked => t,
+        Mode::Loose | Mode::Same => y,
     }
-    y
 }
 
 // ---- the cycle: expressions and predicates
@@ -149,9 +151,9 @@ fn body(
         }
         ExprHead::Literal(e) => machine::make(work, size, 0x41, 0, 0, machine::placed(e, st)),
         ExprHead::Atomic(o, e) => {
-            let n = operators::check_atomic(o);
+            let script = operators::check_atomic(o);
             let p = machine::played_with(NodeRef(0), at, NodeRef(0), at, at, st);
-            machine::play(work, output, size, n, p, machine::placed(e, st))
+            machine::play(work, output, size, script, p, machine::placed(e, st))
         }
         ExprHead::Extension(n, e) => {
             let a = machine::placed(e, st);
@@ -162,9 +164,9 @@ fn body(
             machine::make(work, size, 0x40, 0, 0, a)
         }
         ExprHead::Binary(o, e) => {
-            let n = operators::check_binary(o);
+            let script = operators::check_binary(o);
             let a = machine::placed(e, st);
-            two(s, env, work, output, size, left, n, at, a)
+            two(s, env, work, output, size, left, script, at, a)
         }
         ExprHead::Associative(o, n, e) => {
             let plan = operators::check_associative(o);
@@ -172,9 +174,9 @@ fn body(
             all(s, env, work, output, size, left, plan, n, a)
         }
         ExprHead::Unary(o, e) => {
-            let n = operators::check_unary(o);
+            let script = operators::check_unary(o);
             let a = machine::placed(e, st);
-            one(s, env, work, output, size, left, n, at, a)
+            one(s, env, work, output, size, left, script, at, a)
         }
         ExprHead::Quantified(o, n, e) => quant(s, env, work, output, size, left, o, n, e, st),
         ExprHead::Ascribed(e) => ascribed(s, env, work, output, size, left, e, st),
@@ -212,17 +214,17 @@ fn one(
     output: &mut [u8],
     size: u32,
     left: u32,
-    n: u8,
+    script: Script,
     place: Place,
     st: State,
 ) -> State
-    ensures { mach size result work.new output.new ≡ one_of left s.now env.now n place.0 (mach size st work.old output.old) }
+    ensures { mach size result work.new output.new ≡ one_of left s.now env.now script place.0 (mach size st work.old output.old) }
 {
     let a = expr(s, env, work, output, size, left, st);
     let x = a.last;
     let from = a.from;
     let p = machine::played_with(x, from, NodeRef(0), place, place, a);
-    machine::play(work, output, size, n, p, a)
+    machine::play(work, output, size, script, p, a)
 }
 
 // Two expressions, and then a script.
@@ -234,11 +236,11 @@ fn two(
     output: &mut [u8],
     size: u32,
     left: u32,
-    n: u8,
+    script: Script,
     place: Place,
     st: State,
 ) -> State
-    ensures { mach size result work.new output.new ≡ two_of left s.now env.now n place.0 (mach size st work.old output.old) }
+    ensures { mach size result work.new output.new ≡ two_of left s.now env.now script place.0 (mach size st work.old output.old) }
 {
     let a = expr(s, env, work, output, size, left, st);
     let x = a.last;
@@ -247,29 +249,29 @@ fn two(
     let y = b.last;
     let yfrom = b.from;
     let p = machine::played_with(x, xfrom, y, yfrom, place, b);
-    machine::play(work, output, size, n, p, b)
+    machine::play(work, output, size, script, p, b)
 }
 
 // The plans of a set extension, of a multiple predicate and of a predicate's application.
 const EXTENSION: Plan = Plan {
-    first: operators::UNKNOWN,
-    link: operators::NOTHING,
-    last: operators::POWER,
-    mode: 1,
+    first: Script::Unknown,
+    link: Script::Nothing,
+    last: Script::Power,
+    mode: Mode::Same,
 };
 
 const MULTIPLE: Plan = Plan {
-    first: operators::EMPTY_SET,
-    link: operators::NOTHING,
-    last: operators::NOTHING,
-    mode: 1,
+    first: Script::EmptySet,
+    link: Script::Nothing,
+    last: Script::Nothing,
+    mode: Mode::Same,
 };
 
 const APPLICATION: Plan = Plan {
-    first: operators::NOTHING,
-    link: operators::NOTHING,
-    last: operators::NOTHING,
-    mode: 0,
+    first: Script::Nothing,
+    link: Script::Nothing,
+    last: Script::Nothing,
+    mode: Mode::Loose,
 };
 
 // Any number of expressions, by a plan.
@@ -405,9 +407,9 @@ fn pbody(
         PredHead::Constant(e) => machine::placed(e, st),
         PredHead::Variable(e) => machine::placed(e, st),
         PredHead::Relational(o, e) => {
-            let n = operators::check_relational(o);
+            let script = operators::check_relational(o);
             let a = machine::placed(e, st);
-            two(s, env, work, output, size, left, n, at, a)
+            two(s, env, work, output, size, left, script, at, a)
         }
         PredHead::Connective(e) => {
             preds(s, env, work, output, size, left, 2, machine::placed(e, st))
@@ -419,7 +421,7 @@ fn pbody(
         PredHead::Quantification(n, e) => pquant(s, env, work, output, size, left, n, e, st),
         PredHead::Simple(e) => {
             let a = machine::placed(e, st);
-            one(s, env, work, output, size, left, operators::FINITE, at, a)
+            one(s, env, work, output, size, left, Script::Finite, at, a)
         }
         PredHead::Multiple(n, e) => {
             let a = machine::placed(e, st);

@@ -84,7 +84,7 @@ body-shape_of-output-in-Atomic t c = omega (arith, c.play.auto.work, c.play.auto
 
 pub body-returns-in-Atomic : goal.body-returns-in-Atomic
 unfolding body_by
-body-returns-in-Atomic t c = by_body (expr_of c.args.left c.args.s.now c.args.env.now) (pred_of c.args.left c.args.s.now c.args.env.now) c.args.s.now c.args.env.now _ _ _ _ c.in-Atomic.is (step _ _ _ _ c.check_atomic-n.ensures (step _ _ _ _ c.played_with-p.ensures (step _ _ _ _ c.placed-in-Atomic.ensures c.play.ensures)))
+body-returns-in-Atomic t c = by_body (expr_of c.args.left c.args.s.now c.args.env.now) (pred_of c.args.left c.args.s.now c.args.env.now) c.args.s.now c.args.env.now _ _ _ _ c.in-Atomic.is (step _ _ _ _ c.check_atomic-script.ensures (step _ _ _ _ c.played_with-p.ensures (step _ _ _ _ c.placed-in-Atomic.ensures c.play.ensures)))
 
 pub body-shape_of-work-in-Extension : goal.body-shape_of-work-in-Extension
 body-shape_of-work-in-Extension t c = omega (arith, c.all.auto.work, c.all.auto.output)
@@ -114,7 +114,7 @@ body-shape_of-output-in-Binary t c = omega (arith, c.two.auto.work, c.two.auto.o
 
 pub body-returns-in-Binary : goal.body-returns-in-Binary
 unfolding body_by
-body-returns-in-Binary t c = by_body (expr_of c.args.left c.args.s.now c.args.env.now) (pred_of c.args.left c.args.s.now c.args.env.now) c.args.s.now c.args.env.now _ _ _ _ c.in-Binary.is (step _ _ _ _ c.check_binary-n.ensures (step _ _ _ _ c.placed-a-in-Binary.ensures c.two.ensures))
+body-returns-in-Binary t c = by_body (expr_of c.args.left c.args.s.now c.args.env.now) (pred_of c.args.left c.args.s.now c.args.env.now) c.args.s.now c.args.env.now _ _ _ _ c.in-Binary.is (step _ _ _ _ c.check_binary-script.ensures (step _ _ _ _ c.placed-a-in-Binary.ensures c.two.ensures))
 
 pub body-shape_of-work-in-Associative : goal.body-shape_of-work-in-Associative
 body-shape_of-work-in-Associative t c = omega (arith, c.all-in-Associative.auto.work, c.all-in-Associative.auto.output)
@@ -134,7 +134,7 @@ body-shape_of-output-in-Unary t c = omega (arith, c.one.auto.work, c.one.auto.ou
 
 pub body-returns-in-Unary : goal.body-returns-in-Unary
 unfolding body_by
-body-returns-in-Unary t c = by_body (expr_of c.args.left c.args.s.now c.args.env.now) (pred_of c.args.left c.args.s.now c.args.env.now) c.args.s.now c.args.env.now _ _ _ _ c.in-Unary.is (step _ _ _ _ c.check_unary-n.ensures (step _ _ _ _ c.placed-a-in-Unary.ensures c.one.ensures))
+body-returns-in-Unary t c = by_body (expr_of c.args.left c.args.s.now c.args.env.now) (pred_of c.args.left c.args.s.now c.args.env.now) c.args.s.now c.args.env.now _ _ _ _ c.in-Unary.is (step _ _ _ _ c.check_unary-script.ensures (step _ _ _ _ c.placed-a-in-Unary.ensures c.one.ensures))
 
 pub body-shape_of-work-in-Quantified : goal.body-shape_of-work-in-Quantified
 body-shape_of-work-in-Quantified t c = omega (arith, c.quant.auto.work, c.quant.auto.output)
@@ -313,7 +313,7 @@ pbody-shape_of-output-in-Relational t c = omega (arith, c.two.auto.work, c.two.a
 
 pub pbody-returns-in-Relational : goal.pbody-returns-in-Relational
 unfolding pred_body_by
-pbody-returns-in-Relational t c = by_pred_body _ _ _ _ _ _ _ _ c.in-Relational.is (step _ _ _ _ c.check_relational-n.ensures (step _ _ _ _ c.placed-a.ensures c.two.ensures))
+pbody-returns-in-Relational t c = by_pred_body _ _ _ _ _ _ _ _ c.in-Relational.is (step _ _ _ _ c.check_relational-script.ensures (step _ _ _ _ c.placed-a.ensures c.two.ensures))
 
 pub pbody-shape_of-work-in-Connective : goal.pbody-shape_of-work-in-Connective
 pbody-shape_of-work-in-Connective t c = omega (arith, c.preds.auto.work, c.preds.auto.output)
