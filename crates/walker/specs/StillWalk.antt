@@ -1,7 +1,7 @@
 -- A stopped machine stays as it is: the walk's functions.
 -- After this file a walk that has stopped anywhere is over.
 use Prim.Native.Nat.{ℕ, zero, suc}
-use Rattle.std.specs.Prelude.{Option, Some, None, ◌≡◌, List, false, eqb}
+use Rattle.std.specs.Prelude.{Option, Some, None, ◌+◌, ◌-◌, ◌≡◌, List, false, eqb}
 use Rattle.std.proofs.Math.Path.{refl, ap}
 use Rattle.std.proofs.Common.{◌∙◌}
 use Rattle.types.specs.Limits.{levels, max_names}
@@ -20,11 +20,13 @@ use Rattle.operators.specs.declared.Mode.{Mode}
 use Rattle.operators.specs.declared.Mode.TheVariants.{Loose, Same, Linked}
 use Rattle.operators.specs.declared.Plan.{Plan}
 use Rattle.forms.specs.Forms.{then}
-use Rattle.machine.specs.Machine.{Mach, with_st, stopped_of, placed_of, gave_of, bound_of, list_of, make_of, leave_of}
+use Rattle.machine.specs.Machine.{Mach, with_st, stopped_of, placed_of, gave_of, bound_of, list_of, make_of, expect_of, leave_of}
 use Rattle.machine.specs.Types.{skip_of, free_of, bound_identifier_of, meets_of, ascription_of, declare_of, times_of}
 use Rattle.operators.specs.Operators.{check_atomic_of, check_binary_of, check_unary_of, check_quantified_of, check_relational_of, check_associative_of}
 use Rattle.machine.specs.Scripts.{parts_of, play_of}
 use Rattle.walker.specs.Walk.{meet_of, next_of, one_by, two_by, child_by, children_by, all_by, quant_by, pred_quant_by, ascribed_by, typed_by, body_by, pred_body_by, extension_plan, multiple_plan, application_plan, halts, onto, entered_by, expr_by, pred_by, paid_by, owned_by, expr_of, pred_of}
+use Rattle.walker.specs.Root.{pair_by, product_by, products_of, belongs_of, becomes_in_of, share_by, shares_from, shares_of, such_that_of, becomes_such_of}
+use Rattle.types.specs.Limits.{max_depth}
 use Rattle.machine.specs.Still.{test-both, Halted, still_stopped, still_placed, still_gave, still_bound, still_paid, still_enter, still_skip, still_within, still_list, still_make, still_expect, still_leave, still_free, still_identifier, still_meets, still_ascription, still_declare, still_times, still_play}
 
 abbrev pub Still : (Mach → Mach) → Type 0
@@ -202,3 +204,70 @@ mutual
       still_predby m h (λ g. paid_by (λ v. pred_body_by (λ y. expr_of l s env y) (λ y. pred_of l s env y) s env g (with_st v m)) m) (pred_head (reach s) m.st.at)
       (λ g. still_paidby (λ v. pred_body_by (λ y. expr_of l s env y) (λ y. pred_of l s env y) s env g (with_st v m)) m h
       (still_pbody (λ y. expr_of l s env y) (λ x k. still_expr l s env x k) (λ y. pred_of l s env y) (λ x k. still_pred l s env x k) s env g m h))
+
+-- ---- the walk's functions at a number of levels
+module _ (l : ℕ) (s env : List ℕ) where
+  pub still_one_of : (k : Script) (p : ℕ) (m : Mach) → Halted m → one_by (expr_of l s env) k p m ≡ m
+  still_one_of k p m h = still_one (expr_of l s env) (still_expr l s env) k p m h
+
+  pub still_two_of : (k : Script) (p : ℕ) (m : Mach) → Halted m → two_by (expr_of l s env) k p m ≡ m
+  still_two_of k p m h = still_two (expr_of l s env) (still_expr l s env) k p m h
+
+  pub still_children_of : (plan : Plan) (n : ℕ) (y : NodeRef) (m : Mach) → Halted m → children_by (expr_of l s env) plan n y m ≡ m
+  still_children_of plan n y m h = still_children (expr_of l s env) (still_expr l s env) plan n y m h
+
+  pub still_preds_of : (n : ℕ) (m : Mach) → Halted m → times_of (pred_of l s env) n m ≡ m
+  still_preds_of n m h = still_times (pred_of l s env) m (still_pred l s env m h) n
+
+  pub still_exprs_of : (n : ℕ) (m : Mach) → Halted m → times_of (expr_of l s env) n m ≡ m
+  still_exprs_of n m h = still_times (expr_of l s env) m (still_expr l s env m h) n
+
+  still_pair : (m : Mach) → Halted m → pair_by (expr_of l s env) m ≡ m
+  unfolding pair_by then
+  still_pair m h =
+      ap (λ (a : Mach). (let b = expr_of l s env a in expect_of b.st.last.0 a.st.last.0 b.st.from.0 b)) (still_expr l s env m h)
+      ∙ ap (λ (b : Mach). expect_of b.st.last.0 m.st.last.0 b.st.from.0 b) (still_expr l s env m h)
+      ∙ still_expect m.st.last.0 m.st.last.0 m.st.from.0 m h
+
+  pub still_pairs_of : (n : ℕ) (m : Mach) → Halted m → times_of (pair_by (expr_of l s env)) n m ≡ m
+  still_pairs_of n m h = still_times (pair_by (expr_of l s env)) m (still_pair m h) n
+
+  still_product : (m : Mach) → Halted m → product_by (expr_of l s env) m ≡ m
+  unfolding product_by then
+  still_product m h = ap (λ (a : Mach). make_of 0x44 m.st.last.0 a.st.last.0 a) (still_expr l s env m h) ∙ still_make 0x44 m.st.last.0 m.st.last.0 m h
+
+  pub still_products_of : (n : ℕ) (m : Mach) → Halted m → times_of (product_by (expr_of l s env)) n m ≡ m
+  still_products_of n m h = still_times (product_by (expr_of l s env)) m (still_product m h) n
+
+module _ (s env : List ℕ) where
+  pub still_belongs : (m : Mach) → Halted m → belongs_of s env m ≡ m
+  unfolding belongs_of then
+  still_belongs m h =
+      ap (λ (c : Mach). (let d = expr_of max_depth s env c in expect_of d.st.last.0 c.st.last.0 d.st.from.0 d)) (still_make 0x43 m.st.last.0 0 m h)
+      ∙ ap (λ (d : Mach). expect_of d.st.last.0 m.st.last.0 d.st.from.0 d) (still_expr max_depth s env m h)
+      ∙ still_expect m.st.last.0 m.st.last.0 m.st.from.0 m h
+
+  pub still_becomes_in : (n : ℕ) (m : Mach) → Halted m → becomes_in_of s env n m ≡ m
+  unfolding becomes_in_of then
+  still_becomes_in n m h =
+      ap (λ (a : Mach). belongs_of s env (products_of s env n a)) (still_expr max_depth s env m h)
+      ∙ ap (belongs_of s env) (still_products_of max_depth s env (n - 1) m h)
+      ∙ still_belongs m h
+
+  pub still_shares : (first n p k i : ℕ) (m : Mach) → Halted m → shares_from first n p k i m ≡ m
+  unfolding shares_from share_by then
+  still_shares first n p zero i m h = refl
+  still_shares first n p (suc k) i m h = ap (shares_from first n p k (i + 1)) (still_expect _ _ p m h) ∙ still_shares first n p k (i + 1) m h
+
+  pub still_such_that : (first n p : ℕ) (m : Mach) → Halted m → such_that_of s env first n p m ≡ m
+  unfolding such_that_of shares_of then
+  still_such_that first n p m h = ap (pred_of max_depth s env) (still_shares first n p (n - 0) 0 m h) ∙ still_pred max_depth s env m h
+
+  pub still_becomes_such : (n p : ℕ) (m : Mach) → Halted m → becomes_such_of s env n p m ≡ m
+  unfolding becomes_such_of then
+  still_becomes_such n p m h =
+      ap (λ (a : Mach). such_that_of s env m.st.slots n p (declare_of s env n a)) (still_exprs_of max_depth s env n m h)
+      ∙ ap (such_that_of s env m.st.slots n p) (still_declare s env n m h)
+      ∙ still_such_that m.st.slots n p m h
+
+pub ruleset still = (still_ascription, still_meet, still_expr, still_pred, still_one_of, still_two_of, still_children_of, still_preds_of, still_exprs_of, still_pairs_of, still_products_of, still_belongs, still_becomes_in, still_shares, still_such_that, still_becomes_such)
