@@ -2,9 +2,8 @@
 // work slice, the book stands behind it, and problems go straight into the output. A stopped state passes through every step unchanged.
 #![tactic(auto)]
 
-ghost use Rattle.std.specs.Prelude.{◌≡◌, ℕ, ◌+◌, ◌*◌, ◌-◌, ◌<◌, ◌≤◌, List, length, get_or, take, drop, set};
+ghost use Rattle.std.specs.Prelude.{Some, ◌≡◌, ℕ, ◌+◌, ◌*◌, ◌-◌, ◌<◌, ◌≤◌, List, length, get_or, take, drop, set};
 ghost use Rattle.types.specs.Code.{atom_is};
-ghost use Rattle.heads.specs.declared.DeclAt.TheVariants.{Is};
 ghost use Rattle.unification.specs.Arena.{decode, unify, solved};
 ghost use Rattle.unification.specs.Make.{build};
 ghost use Rattle.makers.specs.Answers.{made};
@@ -14,7 +13,7 @@ ghost use Rattle.machine.specs.Machine.{Mach, mach, whole, cell, smaller, stoppe
 ghost use Rattle.machine.specs.Types.{skip_of, atom_of, lift_of, free_of, bound_identifier_of, note_of, noted_of, notes_of, meets_of, spelled_of, ascription_of, claim_of, declaration_by, declaration_of, declare_of};
 ghost use Rattle.machine.specs.Scripts.{chosen_of, place_of, item_of, play_of, parts_of};
 
-use heads::{Byte, DeclAt, DeclHead};
+use heads::DeclHead;
 use makers::Made;
 use operators::Item;
 use types::{Atom, Head, Name, NodeRef, Place};
@@ -460,13 +459,15 @@ pub fn skip(s: &[u8], left: u32, st: State) -> State
         return stopped(2, st);
     }
     match types::head_at(s, types::MAX_NAMES, st.at.0 as usize) {
-        Head::Wrong => stopped(2, st),
-        Head::Atomic(_, e) => passed(e, st),
-        Head::Power(e) => skip(s, left - 1, passed(e, st)),
-        Head::Product(e) => {
-            let a = skip(s, left - 1, passed(e, st));
-            skip(s, left - 1, a)
-        }
+        None => stopped(2, st),
+        Some(h) => match h {
+            Head::Atomic(_, e) => passed(e, st),
+            Head::Power(e) => skip(s, left - 1, passed(e, st)),
+            Head::Product(e) => {
+                let a = skip(s, left - 1, passed(e, st));
+                skip(s, left - 1, a)
+            }
+        },
     }
 }
 
@@ -492,20 +493,22 @@ fn lift(s: &[u8], work: &mut [u32], size: u32, left: u32, st: State) -> State
         return stopped(2, st);
     }
     match types::head_at(s, types::MAX_NAMES, st.at.0 as usize) {
-        Head::Wrong => stopped(2, st),
-        Head::Atomic(a, e) => atom(work, size, a, passed(e, st)),
-        Head::Power(e) => {
-            let a = lift(s, work, size, left - 1, passed(e, st));
-            let x = a.last;
-            make(work, size, 0x43, x.0, 0, a)
-        }
-        Head::Product(e) => {
-            let a = lift(s, work, size, left - 1, passed(e, st));
-            let x = a.last;
-            let b = lift(s, work, size, left - 1, a);
-            let y = b.last;
-            make(work, size, 0x44, x.0, y.0, b)
-        }
+        None => stopped(2, st),
+        Some(h) => match h {
+            Head::Atomic(a, e) => atom(work, size, a, passed(e, st)),
+            Head::Power(e) => {
+                let a = lift(s, work, size, left - 1, passed(e, st));
+                let x = a.last;
+                make(work, size, 0x43, x.0, 0, a)
+            }
+            Head::Product(e) => {
+                let a = lift(s, work, size, left - 1, passed(e, st));
+                let x = a.last;
+                let b = lift(s, work, size, left - 1, a);
+                let y = b.last;
+                make(work, size, 0x44, x.0, y.0, b)
+            }
+        },
     }
 }
 
@@ -631,17 +634,19 @@ fn note_spelled_givens(
         return stopped(2, st);
     }
     match types::head_at(s, types::MAX_NAMES, st.at.0 as usize) {
-        Head::Wrong => stopped(2, st),
-        Head::Atomic(a, e) => noted(environment, work, output, size, a, place, passed(e, st)),
-        Head::Power(e) => {
-            let a = passed(e, st);
-            note_spelled_givens(s, environment, work, output, size, left - 1, place, a)
-        }
-        Head::Product(e) => {
-            let a = passed(e, st);
-            let b = note_spelled_givens(s, environment, work, output, size, left - 1, place, a);
-            note_spelled_givens(s, environment, work, output, size, left - 1, place, b)
-        }
+        None => stopped(2, st),
+        Some(h) => match h {
+            Head::Atomic(a, e) => noted(environment, work, output, size, a, place, passed(e, st)),
+            Head::Power(e) => {
+                let a = passed(e, st);
+                note_spelled_givens(s, environment, work, output, size, left - 1, place, a)
+            }
+            Head::Product(e) => {
+                let a = passed(e, st);
+                let b = note_spelled_givens(s, environment, work, output, size, left - 1, place, a);
+                note_spelled_givens(s, environment, work, output, size, left - 1, place, b)
+            }
+        },
     }
 }
 
@@ -697,8 +702,8 @@ pub fn ascription(
 {
     let at = st.at;
     match heads::byte_at(s, at) {
-        Byte::Missing => stopped(2, st),
-        Byte::Of(k, e) => {
+        None => stopped(2, st),
+        Some((k, e)) => {
             if k == 0x4F {
                 return placed(e, list(output, 0, at, Name(NO_NAME), st));
             }
@@ -725,8 +730,8 @@ fn claim(
         DeclHead::Plain(_) => st,
         DeclHead::Typed(_) => meets(s, work, output, size, x, place, st),
         DeclHead::Annotated(_) => match heads::byte_at(s, st.at) {
-            Byte::Missing => stopped(2, st),
-            Byte::Of(k, e) => {
+            None => stopped(2, st),
+            Some((k, e)) => {
                 if k == 0x4F {
                     return placed(e, st);
                 }
@@ -746,7 +751,7 @@ fn declared(
     h: DeclHead,
     st: State,
 ) -> State
-    ensures { mach size result work.new output.new ≡ declaration_by s.now environment.now (Is h) (mach size st work.old output.old) }
+    ensures { mach size result work.new output.new ≡ declaration_by s.now environment.now (Some h) (mach size st work.old output.old) }
 {
     let slot = st.slots;
     let place = st.at;
@@ -770,8 +775,8 @@ fn declaration(
     ensures { mach size result work.new output.new ≡ declaration_of s.now environment.now (mach size st work.old output.old) }
 {
     match heads::decl_head(s, st.at) {
-        DeclAt::Wrong => stopped(2, st),
-        DeclAt::Is(h) => declared(s, environment, work, output, size, h, st),
+        None => stopped(2, st),
+        Some(h) => declared(s, environment, work, output, size, h, st),
     }
 }
 

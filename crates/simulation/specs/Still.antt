@@ -1,13 +1,10 @@
 -- A stopped machine stays as it is: every step of it is then no step.
 -- After this file a sequence of steps may be cut after its first stop: what comes later changes nothing.
-use Rattle.std.specs.Prelude.{ℕ, zero, suc, ◌+◌, ◌-◌, ◌/◌, ◌%◌, ◌≡◌, refl, Bool, true, false, List, eqb, ltb}
+use Rattle.types.specs.declared.Place.{Place}
+use Rattle.std.specs.Prelude.{ℕ, zero, suc, ◌+◌, ◌-◌, ◌/◌, ◌%◌, ◌≡◌, refl, Bool, true, false, List, eqb, ltb, Option, Some, None}
 use Rattle.std.proofs.Common.{◌∙◌, ap, ne_eqb}
-use Rattle.heads.specs.declared.Byte.{Byte}
-use Rattle.heads.specs.declared.Byte.TheVariants.{Missing, Of}
 use Rattle.heads.specs.declared.DeclHead.{DeclHead}
 use Rattle.heads.specs.declared.DeclHead.TheVariants.{Plain, Typed, Annotated}
-use Rattle.heads.specs.declared.DeclAt.{DeclAt}
-use Rattle.heads.specs.declared.DeclAt.TheVariants.{Wrong, Is}
 use Rattle.types.specs.Record.{reach}
 use Rattle.heads.specs.Heads.{byte_at, decl_head, decl_end}
 use Rattle.machine.specs.declared.State.{State}
@@ -138,10 +135,10 @@ still_spelled s env x q p m h =
     ap (λ (a : Mach). meets_of s x p (with_st (placed_of m.st.at.0 a.st) a)) (still_notes 65 s env q m h)
     ∙ ap (λ (v : State). meets_of s x p (with_st v m)) (still_placed m.st.at.0 m.st h) ∙ still_meets s x p m h
 
-still_asked : (s env : List ℕ) (x p : ℕ) (b : Byte) (m : Mach) → Halted m → ascription_by s env x p b m ≡ m
+still_asked : (s env : List ℕ) (x p : ℕ) (b : Option (ℕ × Place)) (m : Mach) → Halted m → ascription_by s env x p b m ≡ m
 unfolding ascription_by then
-still_asked s env x p Missing m h = still_within (stopped_of 2) m (still_stopped 2 m.st h)
-still_asked s env x p (Of k e) m h =
+still_asked s env x p None m h = still_within (stopped_of 2) m (still_stopped 2 m.st h)
+still_asked s env x p (Some (k, e)) m h =
     test-both (eqb k 0x4F) _ _ m
     (ap (λ (a : Mach). with_st (placed_of e.0 a.st) a) (still_list 0 m.st.at.0 0xFFFF m h) ∙ still_within (placed_of e.0) m (still_placed e.0 m.st h))
     (still_spelled s env x m.st.at.0 p m h)
@@ -150,10 +147,10 @@ pub still_ascription : (s env : List ℕ) (x p : ℕ) (m : Mach) → Halted m �
 unfolding ascription_of then
 still_ascription s env x p m h = still_asked s env x p (byte_at (reach s) m.st.at) m h
 
-still_annotation : (s env : List ℕ) (x p : ℕ) (b : Byte) (m : Mach) → Halted m → annotation_by s env x p b m ≡ m
+still_annotation : (s env : List ℕ) (x p : ℕ) (b : Option (ℕ × Place)) (m : Mach) → Halted m → annotation_by s env x p b m ≡ m
 unfolding annotation_by then
-still_annotation s env x p Missing m h = still_within (stopped_of 2) m (still_stopped 2 m.st h)
-still_annotation s env x p (Of k e) m h = test-both (eqb k 0x4F) _ _ m (still_within (placed_of e.0) m (still_placed e.0 m.st h)) (still_spelled s env x p p m h)
+still_annotation s env x p None m h = still_within (stopped_of 2) m (still_stopped 2 m.st h)
+still_annotation s env x p (Some (k, e)) m h = test-both (eqb k 0x4F) _ _ m (still_within (placed_of e.0) m (still_placed e.0 m.st h)) (still_spelled s env x p p m h)
 
 pub still_claim : (s env : List ℕ) (k : DeclHead) (x p : ℕ) (m : Mach) → Halted m → claim_of s env k x p m ≡ m
 unfolding claim_of then
@@ -161,10 +158,10 @@ still_claim s env (Plain e) x p m h = refl
 still_claim s env (Typed e) x p m h = still_meets s x p m h
 still_claim s env (Annotated e) x p m h = still_annotation s env x p (byte_at (reach s) m.st.at) m h
 
-still_headed : (s env : List ℕ) (k : DeclAt) (m : Mach) → Halted m → declaration_by s env k m ≡ m
+still_headed : (s env : List ℕ) (k : Option DeclHead) (m : Mach) → Halted m → declaration_by s env k m ≡ m
 unfolding declaration_by then
-still_headed s env Wrong m h = still_within (stopped_of 2) m (still_stopped 2 m.st h)
-still_headed s env (Is k) m h =
+still_headed s env None m h = still_within (stopped_of 2) m (still_stopped 2 m.st h)
+still_headed s env (Some k) m h =
     let q : ℕ = (decl_end k).0 in
     ap (λ (v : State). (let b = make_of 0x4E 0 0 (with_st (placed_of q v) m) in claim_of s env k b.st.last.0 m.st.at.0 (push_bound_of (leave_of m.st.slots m.st.at.0 b)))) (still_enter m.st h)
     ∙ ap (λ (v : State). (let b = make_of 0x4E 0 0 (with_st v m) in claim_of s env k b.st.last.0 m.st.at.0 (push_bound_of (leave_of m.st.slots m.st.at.0 b)))) (still_placed q m.st h)

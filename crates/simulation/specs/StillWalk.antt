@@ -1,7 +1,7 @@
 -- A stopped machine stays as it is: the walk's functions.
 -- After this file a walk that has stopped anywhere is over.
 use Prim.Native.Nat.{ℕ, zero, suc}
-use Rattle.std.specs.Prelude.{◌≡◌, List, false, eqb}
+use Rattle.std.specs.Prelude.{◌≡◌, List, false, eqb, Option, Some, None}
 use Rattle.std.proofs.Math.Path.{refl, ap}
 use Rattle.std.proofs.Common.{◌∙◌}
 use Rattle.types.specs.Limits.{levels, max_names}
@@ -11,10 +11,6 @@ use Rattle.heads.specs.declared.ExprHead.{ExprHead}
 use Rattle.heads.specs.declared.ExprHead.TheVariants.{Free, Bound, Literal, Atomic, Extension, Truth, Binary, Associative, Unary, Quantified, Ascribed, Explicit}
 use Rattle.heads.specs.declared.PredHead.{PredHead}
 use Rattle.heads.specs.declared.PredHead.TheVariants.{Constant, Variable, Relational, Connective, Junction, Negation, Quantification, Simple, Multiple, Application}
-use Rattle.heads.specs.declared.ExprAt.{ExprAt}
-use Rattle.heads.specs.declared.ExprAt.TheVariants as EA
-use Rattle.heads.specs.declared.PredAt.{PredAt}
-use Rattle.heads.specs.declared.PredAt.TheVariants as PA
 use Rattle.types.specs.Record.{reach}
 use Rattle.heads.specs.Heads.{expr_head, pred_head}
 use Rattle.machine.specs.declared.State.{State}
@@ -158,26 +154,26 @@ unfolding owned_by then
 still_ownedby f m h e = ap (λ (v : State). entered_by f v m) (still_enter m.st h) ∙ still_enteredby f m e
 
 module _ (m : Mach) (h : Halted m) where
-  still_exprby : (X : Place → Mach) (f : ExprHead → Mach) (a : ExprAt) → ((i : Place) → X i ≡ m) → ((g : ExprHead) → f g ≡ m) → expr_by X f a m ≡ m
+  still_exprby : (X : Place → Mach) (f : ExprHead → Mach) (a : Option ExprHead) → ((i : Place) → X i ≡ m) → ((g : ExprHead) → f g ≡ m) → expr_by X f a m ≡ m
   unfolding expr_by
-  still_exprby X f EA.Wrong x e = still_halts m h
-  still_exprby X f (EA.Is (Explicit i)) x e = x i
-  still_exprby X f (EA.Is (Free n i)) x e = e (Free n i)
-  still_exprby X f (EA.Is (Bound j i)) x e = e (Bound j i)
-  still_exprby X f (EA.Is (Literal i)) x e = e (Literal i)
-  still_exprby X f (EA.Is (Atomic o i)) x e = e (Atomic o i)
-  still_exprby X f (EA.Is (Extension n i)) x e = e (Extension n i)
-  still_exprby X f (EA.Is (Truth i)) x e = e (Truth i)
-  still_exprby X f (EA.Is (Binary o i)) x e = e (Binary o i)
-  still_exprby X f (EA.Is (Associative o n i)) x e = e (Associative o n i)
-  still_exprby X f (EA.Is (Unary o i)) x e = e (Unary o i)
-  still_exprby X f (EA.Is (Quantified o n i)) x e = e (Quantified o n i)
-  still_exprby X f (EA.Is (Ascribed i)) x e = e (Ascribed i)
+  still_exprby X f None x e = still_halts m h
+  still_exprby X f (Some (Explicit i)) x e = x i
+  still_exprby X f (Some (Free n i)) x e = e (Free n i)
+  still_exprby X f (Some (Bound j i)) x e = e (Bound j i)
+  still_exprby X f (Some (Literal i)) x e = e (Literal i)
+  still_exprby X f (Some (Atomic o i)) x e = e (Atomic o i)
+  still_exprby X f (Some (Extension n i)) x e = e (Extension n i)
+  still_exprby X f (Some (Truth i)) x e = e (Truth i)
+  still_exprby X f (Some (Binary o i)) x e = e (Binary o i)
+  still_exprby X f (Some (Associative o n i)) x e = e (Associative o n i)
+  still_exprby X f (Some (Unary o i)) x e = e (Unary o i)
+  still_exprby X f (Some (Quantified o n i)) x e = e (Quantified o n i)
+  still_exprby X f (Some (Ascribed i)) x e = e (Ascribed i)
 
-  still_predby : (f : PredHead → Mach) (a : PredAt) → ((g : PredHead) → f g ≡ m) → pred_by f a m ≡ m
+  still_predby : (f : PredHead → Mach) (a : Option PredHead) → ((g : PredHead) → f g ≡ m) → pred_by f a m ≡ m
   unfolding pred_by
-  still_predby f PA.Wrong e = still_halts m h
-  still_predby f (PA.Is g) e = e g
+  still_predby f None e = still_halts m h
+  still_predby f (Some g) e = e g
 
 mutual
   unfolding expr_of pred_of then

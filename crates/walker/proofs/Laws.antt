@@ -1,4 +1,5 @@
 -- The steps of the walk at a number of levels, and of its loops, as the code has them.
+use Rattle.std.specs.Prelude.{Option, Some, None}
 use Rattle.std.proofs.Common.{ℕ, zero, suc, ◌+◌, ◌-◌, ◌<◌, ◌≤◌, sym, ap, ap₂, sub-one, arith, List, [], ◌∷◌, ne_eqb, ◌≡◌, ◌∙◌, refl, false, eqb}
 use types.Run.{OneOf, miss}
 use denote.Enum.Declared.{tag_of}
@@ -9,10 +10,6 @@ use Rattle.heads.specs.contracts.ExprHead.{the_type}
 use Rattle.heads.specs.declared.ExprHead.{ExprHead}
 use Rattle.heads.specs.declared.ExprHead.TheVariants.{Free, Bound, Literal, Atomic, Extension, Truth, Binary, Associative, Unary, Quantified, Ascribed, Explicit}
 use Rattle.heads.specs.declared.PredHead.{PredHead}
-use Rattle.heads.specs.declared.ExprAt.{ExprAt}
-use Rattle.heads.specs.declared.ExprAt.TheVariants as EA
-use Rattle.heads.specs.declared.PredAt.{PredAt}
-use Rattle.heads.specs.declared.PredAt.TheVariants as PA
 use Rattle.types.specs.Record.{reach}
 use Rattle.heads.specs.Heads.{expr_head, pred_head}
 use Rattle.operators.specs.declared.Plan.{Plan}
@@ -50,15 +47,15 @@ by_pred zero s env m x h = h
 by_pred (suc l) s env m x h = rw (sub-one, ne_eqb (suc l) 0 (λ e. omega arith)) at h
 
 -- ---- a match on a head
-pub expr-wrong : (X : Place → Mach) (f : ExprHead → Mach) (h : ExprAt) (m x : Mach) → h ≡ EA.Wrong → x ≡ halts m → x ≡ expr_by X f h m
+pub expr-wrong : (X : Place → Mach) (f : ExprHead → Mach) (h : Option ExprHead) (m x : Mach) → h ≡ None → x ≡ halts m → x ≡ expr_by X f h m
 unfolding expr_by
 expr-wrong X f h m x e q = rw e q
 
-pub expr-explicit : (X : Place → Mach) (f : ExprHead → Mach) (h : ExprAt) (g : ExprHead) (p : Place) (m x : Mach) → h ≡ EA.Is g → g ≡ Explicit p → x ≡ X p → x ≡ expr_by X f h m
+pub expr-explicit : (X : Place → Mach) (f : ExprHead → Mach) (h : Option ExprHead) (g : ExprHead) (p : Place) (m x : Mach) → h ≡ Some g → g ≡ Explicit p → x ≡ X p → x ≡ expr_by X f h m
 unfolding expr_by
 expr-explicit X f h g p m x e d q = rw (e, d) q
 
-owned-is : (X : Place → Mach) (f : ExprHead → Mach) (g : ExprHead) (m : Mach) → OneOf (0 ∷ 1 ∷ 2 ∷ 3 ∷ 4 ∷ 5 ∷ 6 ∷ 7 ∷ 8 ∷ 9 ∷ 10 ∷ []) (tag_of the_type g) → expr_by X f (EA.Is g) m ≡ f g
+owned-is : (X : Place → Mach) (f : ExprHead → Mach) (g : ExprHead) (m : Mach) → OneOf (0 ∷ 1 ∷ 2 ∷ 3 ∷ 4 ∷ 5 ∷ 6 ∷ 7 ∷ 8 ∷ 9 ∷ 10 ∷ []) (tag_of the_type g) → expr_by X f (Some g) m ≡ f g
 unfolding expr_by
 owned-is X f (Free x e) m k = refl
 owned-is X f (Bound i e) m k = refl
@@ -73,14 +70,14 @@ owned-is X f (Quantified o n e) m k = refl
 owned-is X f (Ascribed e) m k = refl
 owned-is X f (Explicit e) m k = absurd (miss (0 ∷ 1 ∷ 2 ∷ 3 ∷ 4 ∷ 5 ∷ 6 ∷ 7 ∷ 8 ∷ 9 ∷ 10 ∷ []) 11 tt k)
 
-pub expr-owned : (X : Place → Mach) (f : ExprHead → Mach) (h : ExprAt) (g : ExprHead) (m x : Mach) → h ≡ EA.Is g → OneOf (0 ∷ 1 ∷ 2 ∷ 3 ∷ 4 ∷ 5 ∷ 6 ∷ 7 ∷ 8 ∷ 9 ∷ 10 ∷ []) (tag_of the_type g) → x ≡ f g → x ≡ expr_by X f h m
-expr-owned X f h g m x e k q = q ∙ sym (owned-is X f g m k) ∙ ap (λ (u : ExprAt). expr_by X f u m) (sym e)
+pub expr-owned : (X : Place → Mach) (f : ExprHead → Mach) (h : Option ExprHead) (g : ExprHead) (m x : Mach) → h ≡ Some g → OneOf (0 ∷ 1 ∷ 2 ∷ 3 ∷ 4 ∷ 5 ∷ 6 ∷ 7 ∷ 8 ∷ 9 ∷ 10 ∷ []) (tag_of the_type g) → x ≡ f g → x ≡ expr_by X f h m
+expr-owned X f h g m x e k q = q ∙ sym (owned-is X f g m k) ∙ ap (λ (u : Option ExprHead). expr_by X f u m) (sym e)
 
-pub pred_wrong : (f : PredHead → Mach) (h : PredAt) (m x : Mach) → h ≡ PA.Wrong → x ≡ halts m → x ≡ pred_by f h m
+pub pred_wrong : (f : PredHead → Mach) (h : Option PredHead) (m x : Mach) → h ≡ None → x ≡ halts m → x ≡ pred_by f h m
 unfolding pred_by
 pred_wrong f h m x e q = rw e q
 
-pub pred_is : (f : PredHead → Mach) (h : PredAt) (g : PredHead) (m x : Mach) → h ≡ PA.Is g → x ≡ f g → x ≡ pred_by f h m
+pub pred_is : (f : PredHead → Mach) (h : Option PredHead) (g : PredHead) (m x : Mach) → h ≡ Some g → x ≡ f g → x ≡ pred_by f h m
 unfolding pred_by
 pred_is f h g m x e q = rw e q
 

@@ -1,6 +1,6 @@
 -- What the walk over a formula's bytes does to the machine, record by record, in the code's order. A record is known by its head, the same that
 -- the test of form reads; E and P walk the expressions and predicates below it. Every function takes any bytes; a stopped machine passes through.
-use Rattle.std.specs.Prelude.{ℕ, zero, suc, false, List, eqb}
+use Rattle.std.specs.Prelude.{ℕ, zero, suc, false, List, eqb, Option, Some, None}
 use Rattle.types.specs.Limits.{levels, max_names}
 use Rattle.types.specs.declared.NodeRef.{NodeRef}
 use Rattle.types.specs.declared.Place.{Place}
@@ -8,10 +8,6 @@ use Rattle.heads.specs.declared.ExprHead.{ExprHead}
 use Rattle.heads.specs.declared.ExprHead.TheVariants.{Free, Bound, Literal, Atomic, Extension, Truth, Binary, Associative, Unary, Quantified, Ascribed, Explicit}
 use Rattle.heads.specs.declared.PredHead.{PredHead}
 use Rattle.heads.specs.declared.PredHead.TheVariants.{Constant, Variable, Relational, Connective, Junction, Negation, Quantification, Simple, Multiple, Application}
-use Rattle.heads.specs.declared.ExprAt.{ExprAt}
-use Rattle.heads.specs.declared.ExprAt.TheVariants as EA
-use Rattle.heads.specs.declared.PredAt.{PredAt}
-use Rattle.heads.specs.declared.PredAt.TheVariants as PA
 use Rattle.types.specs.Record.{reach}
 use Rattle.heads.specs.Heads.{expr_head, pred_head}
 use Rattle.machine.specs.declared.State.{State}
@@ -161,24 +157,24 @@ unfoldable pub owned_by : (State → Mach) → Mach → Mach
 owned_by f m = then (enter_of m.st) λ e. entered_by f e m
 
 -- an expression by its head: X for a 0C, whose type stands at a place, f for another one
-unfoldable pub expr_by : (Place → Mach) → (ExprHead → Mach) → ExprAt → Mach → Mach
-expr_by X f EA.Wrong m = halts m
-expr_by X f (EA.Is (Explicit e)) m = X e
-expr_by X f (EA.Is (Free x e)) m = f (Free x e)
-expr_by X f (EA.Is (Bound i e)) m = f (Bound i e)
-expr_by X f (EA.Is (Literal e)) m = f (Literal e)
-expr_by X f (EA.Is (Atomic o e)) m = f (Atomic o e)
-expr_by X f (EA.Is (Extension n e)) m = f (Extension n e)
-expr_by X f (EA.Is (Truth e)) m = f (Truth e)
-expr_by X f (EA.Is (Binary o e)) m = f (Binary o e)
-expr_by X f (EA.Is (Associative o n e)) m = f (Associative o n e)
-expr_by X f (EA.Is (Unary o e)) m = f (Unary o e)
-expr_by X f (EA.Is (Quantified o n e)) m = f (Quantified o n e)
-expr_by X f (EA.Is (Ascribed e)) m = f (Ascribed e)
+unfoldable pub expr_by : (Place → Mach) → (ExprHead → Mach) → Option ExprHead → Mach → Mach
+expr_by X f None m = halts m
+expr_by X f (Some (Explicit e)) m = X e
+expr_by X f (Some (Free x e)) m = f (Free x e)
+expr_by X f (Some (Bound i e)) m = f (Bound i e)
+expr_by X f (Some (Literal e)) m = f (Literal e)
+expr_by X f (Some (Atomic o e)) m = f (Atomic o e)
+expr_by X f (Some (Extension n e)) m = f (Extension n e)
+expr_by X f (Some (Truth e)) m = f (Truth e)
+expr_by X f (Some (Binary o e)) m = f (Binary o e)
+expr_by X f (Some (Associative o n e)) m = f (Associative o n e)
+expr_by X f (Some (Unary o e)) m = f (Unary o e)
+expr_by X f (Some (Quantified o n e)) m = f (Quantified o n e)
+expr_by X f (Some (Ascribed e)) m = f (Ascribed e)
 
-unfoldable pub pred_by : (PredHead → Mach) → PredAt → Mach → Mach
-pred_by f PA.Wrong m = halts m
-pred_by f (PA.Is h) m = f h
+unfoldable pub pred_by : (PredHead → Mach) → Option PredHead → Mach → Mach
+pred_by f None m = halts m
+pred_by f (Some h) m = f h
 
 -- ---- the cycle, at a number of levels
 unfoldable mutual

@@ -8,7 +8,7 @@ ghost use Rattle.machine.specs.Machine.{mach};
 ghost use Rattle.walker.specs.Walk.{meet_of, next_of, one_of, two_of, all_of, children_of, preds_of, quant_of, pred_quant_of, ascribed_of, body_of, pred_body_of, expr_of, explicit_of, owned_of, pred_of};
 ghost use Rattle.walker.specs.Root.{pairs_of, products_of, belongs_of, becomes_in_of, targets_of, shares_of, such_that_of, becomes_such_of, formula_of};
 
-use heads::{ExprAt, ExprHead, PredAt, PredHead, RootAt};
+use heads::{ExprHead, PredHead, Root};
 use machine::State;
 use operators::Plan;
 use types::{Name, NodeRef, Place};
@@ -58,8 +58,8 @@ fn expr(
     ensures { mach size result work.new output.new ≡ expr_of left s.now env.now (mach size st work.old output.old) }
 {
     match heads::expr_head(s, types::MAX_NAMES, false, st.at) {
-        ExprAt::Wrong => machine::stopped(2, st),
-        ExprAt::Is(h) => match h {
+        None => machine::stopped(2, st),
+        Some(h) => match h {
             ExprHead::Explicit(e) => explicit(s, env, work, output, size, left, e, st),
             _ => owned(s, env, work, output, size, left, h, st),
         },
@@ -372,8 +372,8 @@ fn pred(
     ensures { mach size result work.new output.new ≡ pred_of left s.now env.now (mach size st work.old output.old) }
 {
     match heads::pred_head(s, st.at) {
-        PredAt::Wrong => machine::stopped(2, st),
-        PredAt::Is(h) => {
+        None => machine::stopped(2, st),
+        Some(h) => {
             let e = machine::paid(st);
             if e.stop != 0 {
                 return e;
@@ -662,18 +662,18 @@ pub fn formula(
 {
     let at = st.at;
     match heads::root_head(s, at) {
-        RootAt::Wrong => machine::stopped(2, st),
-        RootAt::Expression => expr(s, env, work, output, size, types::LEVELS, st),
-        RootAt::Predicate => pred(s, env, work, output, size, types::LEVELS, st),
-        RootAt::Becomes(n, e) => {
+        None => machine::stopped(2, st),
+        Some(Root::Expression) => expr(s, env, work, output, size, types::LEVELS, st),
+        Some(Root::Predicate) => pred(s, env, work, output, size, types::LEVELS, st),
+        Some(Root::Becomes(n, e)) => {
             let a = machine::placed(e, machine::paid(st));
             pairs(s, env, work, output, size, n, a)
         }
-        RootAt::BecomesIn(n, e) => {
+        Some(Root::BecomesIn(n, e)) => {
             let a = machine::placed(e, machine::paid(st));
             becomes_in(s, env, work, output, size, n, a)
         }
-        RootAt::BecomesSuch(n, e) => {
+        Some(Root::BecomesSuch(n, e)) => {
             let a = machine::placed(e, machine::paid(st));
             becomes_such(s, env, work, output, size, n, at, a)
         }

@@ -8,11 +8,11 @@ shape_of-output-then-k-eq79 c = omega (arith, c.list.auto.output)
 
 pub returns-then-k-eq79 : goal.returns-then-k-eq79
 unfolding ascription_of ascription_by
-returns-then-k-eq79 c = step _ _ _ _ (sym c.in-Of.is ∙ c.byte_at.ensures) (yes_eq _ _ _ _ _ c.if-k-eq79.true (step _ _ _ _ (c.list.ensures _ _) (step _ _ _ _ c.placed.ensures refl)))
+returns-then-k-eq79 c = step _ _ _ _ (sym c.in-Some.is ∙ c.byte_at.ensures) (yes_eq _ _ _ _ _ c.if-k-eq79.true (step _ _ _ _ (c.list.ensures _ _) (step _ _ _ _ c.placed.ensures refl)))
 
-pub returns-in-Missing : goal.returns-in-Missing
+pub returns-in-None : goal.returns-in-None
 unfolding ascription_of ascription_by
-returns-in-Missing c = step _ _ _ _ (sym c.in-Missing.is ∙ c.byte_at.ensures) (step _ _ _ _ c.stopped.ensures refl)
+returns-in-None c = step _ _ _ _ (sym c.in-None.is ∙ c.byte_at.ensures) (step _ _ _ _ c.stopped.ensures refl)
 
 pub shape_of-work : goal.shape_of-work
 shape_of-work c = omega (arith, c.spelled.auto.work, c.spelled.auto.output)
@@ -22,4 +22,4 @@ shape_of-output c = omega (arith, c.spelled.auto.work, c.spelled.auto.output)
 
 pub returns-else-k-eq79 : goal.returns-else-k-eq79
 unfolding ascription_of ascription_by
-returns-else-k-eq79 c = step _ _ _ _ (sym c.in-Of.is ∙ c.byte_at.ensures) (no_eq _ _ _ _ _ c.if-k-eq79.false c.spelled.ensures)
+returns-else-k-eq79 c = step _ _ _ _ (sym c.in-Some.is ∙ c.byte_at.ensures) (no_eq _ _ _ _ _ c.if-k-eq79.false c.spelled.ensures)

@@ -3,9 +3,9 @@ use Rattle.forms.specs.Forms.{step}
 use Rattle.machine.specs.Types.{declaration_by, declaration_of}
 use Rattle.machine.proofs.declaration.Goals as goal
 
-pub returns-in-Wrong : goal.returns-in-Wrong
+pub returns-in-None : goal.returns-in-None
 unfolding declaration_of declaration_by
-returns-in-Wrong c = step _ _ _ _ (sym c.in-Wrong.is ∙ c.decl_head.ensures) (step _ _ _ _ c.stopped.ensures refl)
+returns-in-None c = step _ _ _ _ (sym c.in-None.is ∙ c.decl_head.ensures) (step _ _ _ _ c.stopped.ensures refl)
 
 pub shape_of-work : goal.shape_of-work
 shape_of-work c = omega (arith, c.declared.auto.work, c.declared.auto.output)
@@ -13,6 +13,6 @@ shape_of-work c = omega (arith, c.declared.auto.work, c.declared.auto.output)
 pub shape_of-output : goal.shape_of-output
 shape_of-output c = omega (arith, c.declared.auto.work, c.declared.auto.output)
 
-pub returns-in-Is : goal.returns-in-Is
+pub returns-in-Some : goal.returns-in-Some
 unfolding declaration_of
-returns-in-Is c = step _ _ _ _ (sym c.in-Is.is ∙ c.decl_head.ensures) c.declared.ensures
+returns-in-Some c = step _ _ _ _ (sym c.in-Some.is ∙ c.decl_head.ensures) c.declared.ensures

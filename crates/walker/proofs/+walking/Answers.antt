@@ -215,8 +215,8 @@ expr-explicit-requires t c = (omega (arith, c.decreases), tt)
 pub expr-owned-requires : goal.expr-owned-requires
 expr-owned-requires t c = (omega (arith, c.decreases), tt)
 
-pub expr-returns-in-Wrong : goal.expr-returns-in-Wrong
-expr-returns-in-Wrong t c = by-expr _ _ _ _ _ (step _ _ _ _ c.expr_head.ensures (expr-wrong _ _ _ _ _ c.in-Wrong.is (step _ _ _ _ c.stopped.ensures refl)))
+pub expr-returns-in-None : goal.expr-returns-in-None
+expr-returns-in-None t c = by-expr _ _ _ _ _ (step _ _ _ _ c.expr_head.ensures (expr-wrong _ _ _ _ _ c.in-None.is (step _ _ _ _ c.stopped.ensures refl)))
 
 pub expr-shape_of-work-in-Explicit : goal.expr-shape_of-work-in-Explicit
 expr-shape_of-work-in-Explicit t c = omega (arith, c.explicit.auto.work, c.explicit.auto.output)
@@ -225,7 +225,7 @@ pub expr-shape_of-output-in-Explicit : goal.expr-shape_of-output-in-Explicit
 expr-shape_of-output-in-Explicit t c = omega (arith, c.explicit.auto.work, c.explicit.auto.output)
 
 pub expr-returns-in-Explicit : goal.expr-returns-in-Explicit
-expr-returns-in-Explicit t c = by-expr _ _ _ _ _ (step _ _ _ _ c.expr_head.ensures (expr-explicit _ _ _ _ _ _ _ c.in-Is.is c.in-Explicit.is c.explicit.ensures))
+expr-returns-in-Explicit t c = by-expr _ _ _ _ _ (step _ _ _ _ c.expr_head.ensures (expr-explicit _ _ _ _ _ _ _ c.in-Some.is c.in-Explicit.is c.explicit.ensures))
 
 pub expr-shape_of-work-in_default : goal.expr-shape_of-work-in_default
 expr-shape_of-work-in_default t c = omega (arith, c.owned.auto.work, c.owned.auto.output)
@@ -234,7 +234,7 @@ pub expr-shape_of-output-in_default : goal.expr-shape_of-output-in_default
 expr-shape_of-output-in_default t c = omega (arith, c.owned.auto.work, c.owned.auto.output)
 
 pub expr-returns-in_default : goal.expr-returns-in_default
-expr-returns-in_default t c = by-expr _ _ _ _ _ (step _ _ _ _ c.expr_head.ensures (expr-owned _ _ _ _ _ _ c.in-Is.is (opened c.in_default.in_default-own.keys2) c.owned.ensures))
+expr-returns-in_default t c = by-expr _ _ _ _ _ (step _ _ _ _ c.expr_head.ensures (expr-owned _ _ _ _ _ _ c.in-Some.is (opened c.in_default.in_default-own.keys2) c.owned.ensures))
 
 pub one-expr-a-requires : goal.one-expr-a-requires
 one-expr-a-requires t c = (omega (arith, c.decreases), tt)
@@ -400,11 +400,11 @@ pquant-returns t c = step _ _ _ _ c.placed.ensures (step _ _ _ _ c.declare-a.ens
 
 pub pred-returns-then-e-ne0 : goal.pred-returns-then-e-ne0
 unfolding paid_by entered_by
-pred-returns-then-e-ne0 t c = by_pred _ _ _ _ _ (step _ _ _ _ c.pred_head.ensures (pred_is _ _ _ _ _ c.in-Is.is (step _ _ _ _ c.paid-e.ensures (no_eq _ _ _ _ _ c.if-e-ne0.true refl))))
+pred-returns-then-e-ne0 t c = by_pred _ _ _ _ _ (step _ _ _ _ c.pred_head.ensures (pred_is _ _ _ _ _ c.in-Some.is (step _ _ _ _ c.paid-e.ensures (no_eq _ _ _ _ _ c.if-e-ne0.true refl))))
 
 pub pred-returns-then-left-eq0 : goal.pred-returns-then-left-eq0
 unfolding paid_by entered_by
-pred-returns-then-left-eq0 t c = by_pred _ _ _ _ _ (step _ _ _ _ c.pred_head.ensures (pred_is _ _ _ _ _ c.in-Is.is (step _ _ _ _ c.paid-e.ensures (yes_eq _ _ _ _ _ c.if-e-ne0.false (yes_eq _ _ _ _ _ c.if-left-eq0.true (step _ _ _ _ c.stopped-then-left-eq0.ensures refl))))))
+pred-returns-then-left-eq0 t c = by_pred _ _ _ _ _ (step _ _ _ _ c.pred_head.ensures (pred_is _ _ _ _ _ c.in-Some.is (step _ _ _ _ c.paid-e.ensures (yes_eq _ _ _ _ _ c.if-e-ne0.false (yes_eq _ _ _ _ _ c.if-left-eq0.true (step _ _ _ _ c.stopped-then-left-eq0.ensures refl))))))
 
 pub pred-overflow_sub-left : goal.pred-overflow_sub-left
 pred-overflow_sub-left t c = omega (arith, c.if-left-eq0.false, c.if-e-ne0.false)
@@ -412,9 +412,9 @@ pred-overflow_sub-left t c = omega (arith, c.if-left-eq0.false, c.if-e-ne0.false
 pub pred-pbody-requires : goal.pred-pbody-requires
 pred-pbody-requires t c = (omega (arith, c.decreases, c.if-left-eq0.false, c.if-e-ne0.false), tt)
 
-pub pred-returns-in-Wrong : goal.pred-returns-in-Wrong
+pub pred-returns-in-None : goal.pred-returns-in-None
 unfolding paid_by entered_by
-pred-returns-in-Wrong t c = by_pred _ _ _ _ _ (step _ _ _ _ c.pred_head.ensures (pred_wrong _ _ _ _ c.in-Wrong.is (step _ _ _ _ c.stopped.ensures refl)))
+pred-returns-in-None t c = by_pred _ _ _ _ _ (step _ _ _ _ c.pred_head.ensures (pred_wrong _ _ _ _ c.in-None.is (step _ _ _ _ c.stopped.ensures refl)))
 
 pub pred-shape_of-work : goal.pred-shape_of-work
 pred-shape_of-work t c = omega (arith, c.pbody.auto.work, c.pbody.auto.output)
@@ -424,7 +424,7 @@ pred-shape_of-output t c = omega (arith, c.pbody.auto.work, c.pbody.auto.output)
 
 pub pred-returns-else-left-eq0 : goal.pred-returns-else-left-eq0
 unfolding paid_by entered_by
-pred-returns-else-left-eq0 t c = by_pred _ _ _ _ _ (step _ _ _ _ c.pred_head.ensures (pred_is _ _ _ _ _ c.in-Is.is (step _ _ _ _ c.paid-e.ensures (yes_eq _ _ _ _ _ c.if-e-ne0.false (no_eq _ _ _ _ _ c.if-left-eq0.false c.pbody.ensures)))))
+pred-returns-else-left-eq0 t c = by_pred _ _ _ _ _ (step _ _ _ _ c.pred_head.ensures (pred_is _ _ _ _ _ c.in-Some.is (step _ _ _ _ c.paid-e.ensures (yes_eq _ _ _ _ _ c.if-e-ne0.false (no_eq _ _ _ _ _ c.if-left-eq0.false c.pbody.ensures)))))
 
 pub preds-loop-i-init : goal.preds-loop-i-init
 preds-loop-i-init t c = (refl, refl, refl)

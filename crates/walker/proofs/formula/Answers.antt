@@ -1,28 +1,28 @@
-use Rattle.std.proofs.Common.{refl, sym, ◌∙◌}
+use Rattle.std.proofs.Common.{Some, refl, sym, ap, ◌∙◌}
 use Rattle.forms.specs.Forms.{step}
 use Rattle.walker.specs.Root.{formula_of, root_by}
 use Rattle.walker.proofs.formula.Goals as goal
 
-pub returns-in-Wrong : goal.returns-in-Wrong
+pub returns-in-None : goal.returns-in-None
 unfolding formula_of root_by
-returns-in-Wrong c = step _ _ _ _ (sym c.in-Wrong.is ∙ c.root_head.ensures) (step _ _ _ _ c.stopped.ensures refl)
+returns-in-None c = step _ _ _ _ (sym c.in-None.is ∙ c.root_head.ensures) (step _ _ _ _ c.stopped.ensures refl)
 
-pub returns-in-Expression : goal.returns-in-Expression
+pub returns-in-Some-Expression : goal.returns-in-Some-Expression
 unfolding formula_of root_by
-returns-in-Expression c = step _ _ _ _ (sym c.in-Expression.is ∙ c.root_head.ensures) c.expr.ensures
+returns-in-Some-Expression c = step _ _ _ _ (sym (c.in-Some-Expression.is ∙ ap Some c.in-Some-Expression.field-0-is) ∙ c.root_head.ensures) c.expr.ensures
 
-pub returns-in-Predicate : goal.returns-in-Predicate
+pub returns-in-Some-Predicate : goal.returns-in-Some-Predicate
 unfolding formula_of root_by
-returns-in-Predicate c = step _ _ _ _ (sym c.in-Predicate.is ∙ c.root_head.ensures) c.pred.ensures
+returns-in-Some-Predicate c = step _ _ _ _ (sym (c.in-Some-Predicate.is ∙ ap Some c.in-Some-Predicate.field-0-is) ∙ c.root_head.ensures) c.pred.ensures
 
-pub returns-in-Becomes : goal.returns-in-Becomes
+pub returns-in-Some-Becomes : goal.returns-in-Some-Becomes
 unfolding formula_of root_by
-returns-in-Becomes c = step _ _ _ _ (sym c.in-Becomes.is ∙ c.root_head.ensures) (step _ _ _ _ c.paid.ensures (step _ _ _ _ c.placed-a.ensures c.pairs.ensures))
+returns-in-Some-Becomes c = step _ _ _ _ (sym (c.in-Some-Becomes.is ∙ ap Some c.in-Some-Becomes.field-0-is) ∙ c.root_head.ensures) (step _ _ _ _ c.paid.ensures (step _ _ _ _ c.placed-a.ensures c.pairs.ensures))
 
-pub returns-in-BecomesIn : goal.returns-in-BecomesIn
+pub returns-in-Some-BecomesIn : goal.returns-in-Some-BecomesIn
 unfolding formula_of root_by
-returns-in-BecomesIn c = step _ _ _ _ (sym c.in-BecomesIn.is ∙ c.root_head.ensures) (step _ _ _ _ c.paid-in-BecomesIn.ensures (step _ _ _ _ c.placed-a-in-BecomesIn.ensures c.becomes_in.ensures))
+returns-in-Some-BecomesIn c = step _ _ _ _ (sym (c.in-Some-BecomesIn.is ∙ ap Some c.in-Some-BecomesIn.field-0-is) ∙ c.root_head.ensures) (step _ _ _ _ c.paid-in-Some-BecomesIn.ensures (step _ _ _ _ c.placed-a-in-Some-BecomesIn.ensures c.becomes_in.ensures))
 
-pub returns-in-BecomesSuch : goal.returns-in-BecomesSuch
+pub returns-in-Some-BecomesSuch : goal.returns-in-Some-BecomesSuch
 unfolding formula_of root_by
-returns-in-BecomesSuch c = step _ _ _ _ (sym c.in-BecomesSuch.is ∙ c.root_head.ensures) (step _ _ _ _ c.paid-in-BecomesSuch.ensures (step _ _ _ _ c.placed-a-in-BecomesSuch.ensures c.becomes_such.ensures))
+returns-in-Some-BecomesSuch c = step _ _ _ _ (sym (c.in-Some-BecomesSuch.is ∙ ap Some c.in-Some-BecomesSuch.field-0-is) ∙ c.root_head.ensures) (step _ _ _ _ c.paid-in-Some-BecomesSuch.ensures (step _ _ _ _ c.placed-a-in-Some-BecomesSuch.ensures c.becomes_such.ensures))
