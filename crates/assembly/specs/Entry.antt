@@ -1,13 +1,14 @@
 -- The entry, put together: a call, step by step as the code goes, is the call that `infer_of` defines.
 -- After this file `calls_infer` is all that the entry's proof needs: it speaks of bytes, lengths and the environment's table, and of nothing inside.
+use Rattle.types.specs.declared.Place.{Place}
 use Rattle.std.specs.Prelude.{ℕ, ◌+◌, ◌*◌, ◌≤◌, ◌<◌, ◌≡◌, Bool, true, false, List, [], ◌∷◌, eqb, length, take, get_or}
 use Rattle.std.proofs.Math.Path.{refl, sym}
 use Rattle.std.proofs.Common.{◌∙◌, ap, subst, arith, length-take-le, le-ltb}
 use Rattle.meter.specs.Meter.{Out, spent, halt, done, broken, full}
 use Rattle.types.specs.Ty.{Ty, Below}
 use Rattle.types.specs.Spellings.{bytes-at}
-use Rattle.formula.specs.declared.Fault.{Fault}
-use Rattle.formula.specs.declared.Fault.TheVariants as F
+use Rattle.types.specs.declared.Fault.{Fault}
+use Rattle.types.specs.declared.Fault.TheVariants as F
 use Rattle.formula.specs.Environment.{holds, first, Entries, lookup}
 use Rattle.formula.specs.EnvParse.{capped, environment_of, Table}
 use Rattle.formula.specs.EnvSteps.{capped-most}
@@ -117,12 +118,12 @@ blamed_call : (a : Answer) (i : I.Answer) (out work : List ℕ) → told a ≡ b
 blamed_call a i out work t b z n =
     closed_call i (judged a out) out work work (record { tells = t; holds = ap (λ (k : ℕ). take k out) z ∙ sym b; plain = n }) refl refl (ap length b ∙ sym z)
 
-environment-blamed : (fault : Fault) (out work : List ℕ) → closed (judged (fault_of true fault) out) work ≡ call_of (blamed 3 fault) out work
+environment-blamed : (fault : Fault Place) (out work : List ℕ) → closed (judged (fault_of true fault) out) work ≡ call_of (blamed 3 fault) out work
 unfolding blamed fault_of test told brief refused
 environment-blamed (F.Malformed p) out work = blamed_call _ (refused 3 p.0) out work refl refl refl (λ e. omega arith)
 environment-blamed (F.Beyond p) out work = blamed_call _ (refused 5 p.0) out work refl refl refl (λ e. omega arith)
 
-formula-blamed : (fault : Fault) (out work : List ℕ) → closed (judged (fault_of false fault) out) work ≡ call_of (blamed 4 fault) out work
+formula-blamed : (fault : Fault Place) (out work : List ℕ) → closed (judged (fault_of false fault) out) work ≡ call_of (blamed 4 fault) out work
 unfolding blamed fault_of test told brief refused
 formula-blamed (F.Malformed p) out work = blamed_call _ (refused 4 p.0) out work refl refl refl (λ e. omega arith)
 formula-blamed (F.Beyond p) out work = blamed_call _ (refused 5 p.0) out work refl refl refl (λ e. omega arith)

@@ -1,5 +1,5 @@
 -- The parts of a body as the code reads them: one byte at a time, up to the last place that can be numbered.
-use Rattle.std.specs.Prelude.{ℕ, ◌+◌, ◌≤◌, ◌<◌, ◌≡◌, List, get_or, Some, None}
+use Rattle.std.specs.Prelude.{ℕ, ◌+◌, ◌≤◌, ◌<◌, ◌≡◌, List, get_or, Option, Some, None}
 use native.Mathlib.Omega.{arith}
 use Rattle.std.proofs.Math.Decide.{dec_le}
 use Rattle.std.proofs.Common.{sym, ◌∙◌, drop_of_length-le, drop-cons, take_all, get_or-take}
@@ -42,6 +42,10 @@ module _ (s : List ℕ) (p : Place) where
   pub byte_beyond : 4294967295 ≤ p.0 → p.0 < length s → None ≡ byte_at (reach s) p
   unfolding reach
   byte_beyond l h = let e = length-take-le 4294967295 s (omega arith) in byte_out (reach s) p (omega arith)
+
+-- what was read, by its parts
+pub same_part : (m n : ℕ) (q e : Place) → ◌≡◌ {A = Option (ℕ × Place)} (Some (m, q)) (Some (n, e)) → (m ≡ n) × (q ≡ e)
+same_part m n q e h = let w : ◌≡◌ {A = ℕ × Place} (m, q) (n, e) = cc in (ap (λ (o : ℕ × Place). o.0) w, ap (λ (o : ℕ × Place). o.1) w)
 
 -- what a formula begins with, by its first byte and its count
 pub root-missing : (s : List ℕ) (p : Place) → byte_at s p ≡ None → None ≡ root_head s p

@@ -7,8 +7,8 @@ use denote.Enum.Declared.{tag_of}
 use Rattle.runner.specs.contracts.Answer.{the_type}
 use Rattle.runner.specs.declared.Answer.{Answer}
 use Rattle.runner.specs.declared.Answer.TheVariants.{Typed, Problems, Oversized, BadEnvironment, BadFormula, Beyond, Full, Spent, NoRoom}
-use Rattle.formula.specs.declared.Fault.{Fault}
-use Rattle.formula.specs.declared.Fault.TheVariants as F
+use Rattle.types.specs.declared.Fault.{Fault}
+use Rattle.types.specs.declared.Fault.TheVariants as F
 use Rattle.types.specs.declared.Place.{Place}
 use Rattle.forms.specs.Forms.{test}
 use Rattle.inference.specs.Infer.{sized}
@@ -50,15 +50,15 @@ pub same-judged : (a a' : Answer) (out : List ℕ) → a ≡ a' → judged a out
 same-judged a a' out e = ap (λ (x : Answer). judged x out) e
 
 -- faults of form
-pub blames_environment : (b : Bool) (f : Fault) (p : Place) → f ≡ F.Malformed p → b ≡ true → BadEnvironment p ≡ fault_of b f
+pub blames_environment : (b : Bool) (f : Fault Place) (p : Place) → f ≡ F.Malformed p → b ≡ true → BadEnvironment p ≡ fault_of b f
 unfolding fault_of test
 blames_environment b f p e h = rw (e, h) refl
 
-pub blames_formula : (b : Bool) (f : Fault) (p : Place) → f ≡ F.Malformed p → b ≡ false → BadFormula p ≡ fault_of b f
+pub blames_formula : (b : Bool) (f : Fault Place) (p : Place) → f ≡ F.Malformed p → b ≡ false → BadFormula p ≡ fault_of b f
 unfolding fault_of test
 blames_formula b f p e h = rw (e, h) refl
 
-pub blames_beyond : (b : Bool) (f : Fault) (p : Place) → f ≡ F.Beyond p → Beyond p ≡ fault_of b f
+pub blames_beyond : (b : Bool) (f : Fault Place) (p : Place) → f ≡ F.Beyond p → Beyond p ≡ fault_of b f
 unfolding fault_of
 blames_beyond b f p e = rw e refl
 

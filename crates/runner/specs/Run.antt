@@ -1,8 +1,9 @@
 -- Inference step by step, as the code goes: the walk, the tests, the verdict, the refusals of form.
 -- What all of it comes to is `infer_of` of crate `inference`; crate `assembly` has the proof.
+use Rattle.types.specs.declared.Place.{Place}
 use Rattle.std.specs.Prelude.{ℕ, ◌-◌, Bool, true, false, List, eqb}
-use Rattle.formula.specs.declared.Fault.{Fault}
-use Rattle.formula.specs.declared.Fault.TheVariants as F
+use Rattle.types.specs.declared.Fault.{Fault}
+use Rattle.types.specs.declared.Fault.TheVariants as F
 use Rattle.machine.specs.State.{State}
 use Rattle.forms.specs.Forms.{test, then}
 use Rattle.machine.specs.Machine.{Mach, mach}
@@ -47,6 +48,6 @@ judge_of budget m =
     (λ _. judged (verdict_of false budget m.st) m.out)
 
 -- a fault of form, of the environment or of the formula
-unfoldable pub fault_of : Bool → Fault → Answer
+unfoldable pub fault_of : Bool → Fault Place → Answer
 fault_of environment (F.Malformed p) = test environment (λ _. BadEnvironment p) (λ _. BadFormula p)
 fault_of environment (F.Beyond p) = Beyond p

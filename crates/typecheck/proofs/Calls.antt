@@ -1,8 +1,10 @@
 -- How the entry's ways add up to one call.
+use Rattle.types.specs.declared.Place.{Place}
+use Rattle.std.specs.Prelude.{Ok, Err}
 use Rattle.std.proofs.Common.{ℕ, ◌+◌, ◌-◌, ◌*◌, ◌≤◌, ◌<◌, subst, List, ◌≡◌, refl, sym, ap, ◌∙◌, true, false, length, take, replicate, get_or}
-use Rattle.formula.specs.declared.Fault.{Fault}
-use Rattle.formula.specs.declared.Form.{Form}
-use Rattle.formula.specs.declared.Form.TheVariants.{Good, TooLong, Bad}
+use Rattle.types.specs.declared.Fault.{Fault}
+use Rattle.formula.specs.Parse.{Form}
+use Rattle.formula.specs.declared.FormError.TheVariants.{TooLong, At}
 use Rattle.formula.specs.declared.Environment.{Environment}
 use Rattle.formula.specs.EnvParse.{capped, environment_of, Table}
 use Rattle.formula.specs.EnvTold.{answer_of}
@@ -21,17 +23,17 @@ use Rattle.assembly.specs.Entry.{calls_infer}
 
 -- ---- by the formula's form
 module _ (form : Form) (s env types : List ℕ) (cap budget : ℕ) (out work : List ℕ) where
-  pub formula-long : form ≡ TooLong → called Oversized out work ≡ formula_call form s env types cap budget out work
+  pub formula-long : form ≡ Err TooLong → called Oversized out work ≡ formula_call form s env types cap budget out work
   unfolding formula_call
   formula-long e = sym (ap (λ (f : Form). formula_call f s env types cap budget out work) e)
 
-  pub formula-bad : (f : Fault) (a r : Answer) (out' work' : List ℕ) → form ≡ Bad f → a ≡ fault_of false f → called r out' work' ≡ called a (cleared (told a).size out) (cleared 0 work)
+  pub formula-bad : (f : Fault Place) (a r : Answer) (out' work' : List ℕ) → form ≡ Err (At f) → a ≡ fault_of false f → called r out' work' ≡ called a (cleared (told a).size out) (cleared 0 work)
       → called r out' work' ≡ formula_call form s env types cap budget out work
   unfolding formula_call closed
   formula-bad f a r out' work' e b c =
       c ∙ ap (λ (x : Answer). called x (cleared (told x).size out) (cleared 0 work)) b ∙ sym (ap (λ (g : Form). formula_call g s env types cap budget out work) e)
 
-  pub formula-good : (a r : Answer) (out₁ work₁ out' work' : List ℕ) → form ≡ Good → judged a out₁ ≡ judge_of budget (run_of s env types (cap * 3) budget (take (cap * 3 + 4096) work) out) → length work₁ ≡ length work
+  pub formula-good : (a r : Answer) (out₁ work₁ out' work' : List ℕ) → form ≡ Ok tt → judged a out₁ ≡ judge_of budget (run_of s env types (cap * 3) budget (take (cap * 3 + 4096) work) out) → length work₁ ≡ length work
       → called r out' work' ≡ called a (cleared (told a).size out₁) (cleared 0 work₁) → called r out' work' ≡ formula_call form s env types cap budget out work
   unfolding formula_call closed
   formula-good a r out₁ work₁ out' work' e j l c =
@@ -54,18 +56,18 @@ module _ (s env : List ℕ) (names cap budget : ℕ) (out work : List ℕ) (t : 
       let f = e ∙ ap (λ (g : Form). environment_call g (form_of (parse_of names s)) s env t.types cap budget out work) form-told in
       f ∙ calls_infer s env t.types names cap budget out work bs be within table-told ok (sym (ap (λ (y : Call). length y.output) f) ∙ l)
 
-  pub infer_long : t.form ≡ TooLong → called Oversized out work ≡ call_of (infer_of s env names cap budget (length out) (length work)) out work
+  pub infer_long : t.form ≡ Err TooLong → called Oversized out work ≡ call_of (infer_of s env names cap budget (length out) (length work)) out work
   unfolding environment_call called
   infer_long e = infers (called Oversized out work) (sym (ap (λ (g : Form). environment_call g (form_of (parse_of names s)) s env t.types cap budget out work) e)) refl
 
-  pub infer_bad : (f : Fault) (a r : Answer) (out' work' : List ℕ) → t.form ≡ Bad f → a ≡ fault_of true f → called r out' work' ≡ called a (cleared (told a).size out) (cleared 0 work) → length out' ≡ length out
+  pub infer_bad : (f : Fault Place) (a r : Answer) (out' work' : List ℕ) → t.form ≡ Err (At f) → a ≡ fault_of true f → called r out' work' ≡ called a (cleared (told a).size out) (cleared 0 work) → length out' ≡ length out
       → called r out' work' ≡ call_of (infer_of s env names cap budget (length out) (length work)) out work
   unfolding environment_call closed called
   infer_bad f a r out' work' e b c l =
       infers (called r out' work')
       (c ∙ ap (λ (x : Answer). called x (cleared (told x).size out) (cleared 0 work)) b ∙ sym (ap (λ (g : Form). environment_call g (form_of (parse_of names s)) s env t.types cap budget out work) e)) l
 
-  pub infer_good : (r : Answer) (out' work' : List ℕ) → t.form ≡ Good → called r out' work' ≡ formula_call (form_of (parse_of names s)) s env t.types cap budget out work → length out' ≡ length out
+  pub infer_good : (r : Answer) (out' work' : List ℕ) → t.form ≡ Ok tt → called r out' work' ≡ formula_call (form_of (parse_of names s)) s env t.types cap budget out work → length out' ≡ length out
       → called r out' work' ≡ call_of (infer_of s env names cap budget (length out) (length work)) out work
   unfolding environment_call called
   infer_good r out' work' e c l =
