@@ -8,19 +8,32 @@ ghost use Rattle.machine.specs.State as S;
 ghost use Rattle.memory.specs.Memory.{cleared};
 ghost use Rattle.runner.specs.Answers.{told, called};
 ghost use Rattle.runner.specs.Begin.{start_of, entered_of};
-ghost use Rattle.runner.specs.Run.{verdict_of, judged, judge_of, fault_of};
+ghost use Rattle.runner.specs.Run.{verdict_of, judged, judge_of, environment_fault, formula_fault};
 
 use formula::Fault;
 use machine::State;
 use types::{NodeRef, Place};
 
-// What inference answers.
+// Whether a formula's types were found.
+#[derive(Clone, Copy, PartialEq, Eq)]
+pub enum Verdict {
+    // 0
+    Typed,
+    // 1
+    Problems,
+}
+
+// What inference comes to: its verdict, the bytes written, the steps taken.
 #[derive(Clone, Copy)]
-pub enum Answer {
-    // 0: the bytes written and the steps taken
-    Typed(usize, u64),
-    // 1: the bytes written and the steps taken
-    Problems(usize, u64),
+pub struct Outcome {
+    pub verdict: Verdict,
+    pub length: usize,
+    pub steps: u64,
+}
+
+// Why there is no outcome.
+#[derive(Clone, Copy)]
+pub enum Refusal {
     // 2
     Oversized,
     // 3
@@ -37,32 +50,27 @@ pub enum Answer {
     NoRoom,
 }
 
+// What inference answers.
+pub type Answer = Result<Outcome, Refusal>;
+
 // ---- number 2
 
+#[tactic(auto, unfolding(inference::specs::Infer::sized))]
 pub fn fits(formula: usize, environment: usize, names: u32, capacity: u32, work: usize) -> bool
     ensures { result ≡ sized formula environment names capacity work }
 {
-    if formula > types::MAX_BYTES {
-        return false;
-    }
-    if environment > types::MAX_BYTES {
-        return false;
-    }
-    if names > types::MAX_NAMES {
-        return false;
-    }
-    if capacity == 0 {
-        return false;
-    }
-    if capacity > types::MAX_CAPACITY {
-        return false;
-    }
-    capacity as usize * 3 + types::BOOK <= work
+    formula <= types::MAX_BYTES
+        && environment <= types::MAX_BYTES
+        && names <= types::MAX_NAMES
+        && 1 <= capacity
+        && capacity <= types::MAX_CAPACITY
+        && 3 * capacity as usize + types::BOOK <= work
 }
 
 // ---- the walk and the finish
 
 // The state that a walk begins with.
+#[tactic(auto, unfolding(crate::specs::Begin::start_of))]
 pub fn start(budget: u64) -> State
     ensures { result ≡ start_of budget }
 {
@@ -85,72 +93,58 @@ pub fn start(budget: u64) -> State
 pub fn enter_types(work: &mut [u32], size: u32, types: &[u32; 256])
     ensures { (st : S.State) (out : List ℕ) → mach size st work.new out ≡ entered_of types.now (mach size st work.old out) }
 {
-    let mut x: u32 = 0;
-    while x < types::MAX_NAMES {
-        let i = x as usize;
-        machine::put(work, size, machine::ENTRIES, 1, x, 0, types[i]);
-        x += 1;
+    for x in 0..types::MAX_NAMES {
+        machine::put(work, size, machine::ENTRIES, 1, x, 0, types[x as usize]);
     }
 }
 
 // ---- the answer
 
-// What of a budget is not left.
-fn steps(budget: u64, left: u64) -> u64
-    ensures { result ≡ budget - left }
-{
-    if left <= budget { budget - left } else { 0 }
-}
-
-// The answer of a walk that stopped or found no room, or whose bytes stand in the output: a number other than 0 where there are bytes before the typing's.
-fn verdict(typed: bool, budget: u64, st: State) -> Answer
-    ensures { result ≡ verdict_of typed budget st }
+// The answer of a walk that stopped or found no room, or whose bytes stand in the output.
+#[tactic(auto, using(forms::specs::Forms::yes_eq, forms::specs::Forms::no_eq, forms::specs::Forms::yes_if, forms::specs::Forms::no_if), unfolding(crate::specs::Run::verdict_of))]
+fn conclude(verdict: Verdict, budget: u64, st: State) -> Answer
+    ensures { result ≡ verdict_of verdict budget st }
 {
     if st.stop == 6 {
-        return Answer::Full;
+        return Err(Refusal::Full);
     }
     if st.stop == 7 {
-        return Answer::Spent;
+        return Err(Refusal::Spent);
     }
     if st.stop != 0 {
-        return Answer::Oversized;
+        return Err(Refusal::Oversized);
     }
     if st.over {
-        return Answer::NoRoom;
+        return Err(Refusal::NoRoom);
     }
-    if typed {
-        return Answer::Typed(st.bytes, steps(budget, st.budget));
-    }
-    Answer::Problems(st.bytes, steps(budget, st.budget))
+    Ok(Outcome {
+        verdict,
+        length: st.bytes,
+        steps: budget.saturating_sub(st.budget),
+    })
 }
 
 // After the tests: problems, a stop or no room as they stand; else the typing's entries are written.
 pub fn judge(work: &[u32], output: &mut [u8], size: u32, budget: u64, st: State) -> Answer
     ensures { judged result output.new ≡ judge_of budget (mach size st work.now output.old) }
 {
-    if st.stop != 0 {
-        return verdict(false, budget, st);
-    }
-    if st.over {
-        return verdict(false, budget, st);
-    }
-    if st.bytes != 0 {
-        return verdict(false, budget, st);
+    if st.stop != 0 || st.over || st.bytes != 0 {
+        return conclude(Verdict::Problems, budget, st);
     }
     let written = finisher::write_answer(work, output, size, st);
-    verdict(true, budget, written)
+    conclude(Verdict::Typed, budget, written)
 }
 
 // ---- what is left behind
 
 // The bytes of an answer.
+#[tactic(auto, unfolding(crate::specs::Answers::told))]
 fn length_of(answer: Answer) -> usize
     ensures { result ≡ (told answer).size }
 {
     match answer {
-        Answer::Typed(n, _) => n,
-        Answer::Problems(n, _) => n,
-        _ => 0,
+        Ok(outcome) => outcome.length,
+        Err(_) => 0,
     }
 }
 
@@ -163,17 +157,24 @@ pub fn close(answer: Answer, output: &mut [u8], work: &mut [u32]) -> Answer
     answer
 }
 
-// A fault of form, as an answer.
-pub fn refusal(environment: bool, fault: Fault) -> Answer
-    ensures { result ≡ fault_of environment fault }
+// A fault of the environment's form, as a refusal.
+#[tactic(auto, unfolding(crate::specs::Run::environment_fault))]
+pub fn environment_refusal(fault: Fault) -> Refusal
+    ensures { result ≡ environment_fault fault }
 {
     match fault {
-        Fault::Malformed(p) => {
-            if environment {
-                return Answer::BadEnvironment(p);
-            }
-            Answer::BadFormula(p)
-        }
-        Fault::Beyond(p) => Answer::Beyond(p),
+        Fault::Malformed(p) => Refusal::BadEnvironment(p),
+        Fault::Beyond(p) => Refusal::Beyond(p),
+    }
+}
+
+// A fault of the formula's form, as a refusal.
+#[tactic(auto, unfolding(crate::specs::Run::formula_fault))]
+pub fn formula_refusal(fault: Fault) -> Refusal
+    ensures { result ≡ formula_fault fault }
+{
+    match fault {
+        Fault::Malformed(p) => Refusal::BadFormula(p),
+        Fault::Beyond(p) => Refusal::Beyond(p),
     }
 }

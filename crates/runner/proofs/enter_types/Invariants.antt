@@ -6,6 +6,3 @@ use Rattle.runner.proofs.enter_types.Given as goal
 
 abbrev pub invariant-loop-x : goal.invariant-loop-x
 invariant-loop-x l = ((st : State) (out : List ℕ) → entered_from l.types 0 256 (mach l.size st l.initial.work out) ≡ entered_from l.types l.x (256 - l.x) (mach l.size st l.work out)) × (length l.work ≡ length l.initial.work)
-
-abbrev pub decreases-loop-x : goal.decreases-loop-x
-decreases-loop-x l = 256 - l.x
