@@ -53,13 +53,13 @@ impl From<Halt> for Stop {
 }
 
 #[derive(Drop)]
-pub struct Machine<'a> {
+pub struct Machine<'a, 'b> {
     pub formula: &'a [u8],
     pub environment: &'a [u8],
     // the words of the arena
     pub size: u32,
     pub work: &'a mut [u32],
-    pub output: &'a mut [u8],
+    pub output: &'b mut [u8],
     // the next byte of the formula
     pub at: Place,
     // the place of the expression walked last, which a comparison with it is listed at
@@ -167,6 +167,13 @@ fn within(size: u32, most: usize) -> usize
     if n < most { n } else { most }
 }
 
+// The arena, to read.
+pub fn arena(work: &[u32], size: u32) -> &[u32]
+    ensures { result.now ≡ take size work.now }
+{
+    &work[..within(size, work.len())]
+}
+
 fn push(work: &mut [u32], size: u32, count: u32, node: Node) -> Result<NodeRef, MakeError>
     ensures work_after { made result (take size work.new) ≡ build (take size work.old) count (node_is node) }
     ensures work_unchanged { drop size work.new ≡ drop size work.old }
@@ -190,7 +197,7 @@ fn unified(
     unifier::unify(&mut work[..n], count, a, b, left)
 }
 
-impl<'a> Machine<'a> {
+impl<'a, 'b> Machine<'a, 'b> {
     // The machine that a walk begins with.
     #[tactic(auto, using(crate::specs::Seen::still, crate::specs::Still::tests), unfolding(crate::specs::Machine::start_of, forms::specs::Forms::then))]
     pub fn new(
@@ -199,8 +206,8 @@ impl<'a> Machine<'a> {
         size: u32,
         budget: u64,
         work: &'a mut [u32],
-        output: &'a mut [u8],
-    ) -> Machine<'a>
+        output: &'b mut [u8],
+    ) -> Machine<'a, 'b>
         ensures value { machine result ≡ mach size (start_of budget) work.old output.old }
         ensures formula { result.formula.now ≡ formula.now }
         ensures environment { result.environment.now ≡ environment.now }
@@ -228,7 +235,7 @@ impl<'a> Machine<'a> {
     }
 }
 
-impl Machine<'_> {
+impl Machine<'_, '_> {
     // ---- steps on the state alone
 
     // The walk stands at the offset after a type's head, if a place can number it.
@@ -393,8 +400,7 @@ impl Machine<'_> {
     pub fn solved(&self, t: NodeRef, left: &mut u64) -> Result<bool, Halt>
         ensures { told result left.new ≡ solved (machine self.now).arena self.now.nodes t.0 left.old }
     {
-        let n = within(self.size, self.work.len());
-        unifier::solved(&self.work[..n], self.nodes, t, left)
+        unifier::solved(arena(self.work, self.size), self.nodes, t, left)
     }
 
     // A node is made.
