@@ -10,9 +10,8 @@ ghost use Rattle.runner.specs.Answers.{told, called};
 ghost use Rattle.runner.specs.Begin.{start_of, entered_of};
 ghost use Rattle.runner.specs.Run.{verdict_of, judged, judge_of, fault_of};
 
-use formula::Fault;
 use machine::State;
-use types::{NodeRef, Place};
+use types::{Fault, NodeRef, Place};
 
 // What inference answers.
 #[derive(Clone, Copy)]
@@ -164,7 +163,7 @@ pub fn close(answer: Answer, output: &mut [u8], work: &mut [u32]) -> Answer
 }
 
 // A fault of form, as an answer.
-pub fn refusal(environment: bool, fault: Fault) -> Answer
+pub fn refusal(environment: bool, fault: Fault<Place>) -> Answer
     ensures { result ≡ fault_of environment fault }
 {
     match fault {
