@@ -10,9 +10,8 @@ ghost use Rattle.runner.specs.Answers.{told, called};
 ghost use Rattle.runner.specs.Begin.{start_of, entered_of};
 ghost use Rattle.runner.specs.Run.{verdict_of, judged, judge_of, environment_fault, formula_fault};
 
-use formula::Fault;
 use machine::State;
-use types::{NodeRef, Place};
+use types::{Fault, NodeRef, Place};
 
 // Whether a formula's types were found.
 #[derive(Clone, Copy, PartialEq, Eq)]
@@ -159,7 +158,7 @@ pub fn close(answer: Answer, output: &mut [u8], work: &mut [u32]) -> Answer
 
 // A fault of the environment's form, as a refusal.
 #[tactic(auto, unfolding(crate::specs::Run::environment_fault))]
-pub fn environment_refusal(fault: Fault) -> Refusal
+pub fn environment_refusal(fault: Fault<Place>) -> Refusal
     ensures { result ≡ environment_fault fault }
 {
     match fault {
@@ -170,7 +169,7 @@ pub fn environment_refusal(fault: Fault) -> Refusal
 
 // A fault of the formula's form, as a refusal.
 #[tactic(auto, unfolding(crate::specs::Run::formula_fault))]
-pub fn formula_refusal(fault: Fault) -> Refusal
+pub fn formula_refusal(fault: Fault<Place>) -> Refusal
     ensures { result ≡ formula_fault fault }
 {
     match fault {

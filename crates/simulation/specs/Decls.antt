@@ -129,7 +129,7 @@ module _ (Γ : Env) (env : List ℕ) (cap room : ℕ) (wide : cap ≤ 32768) (br
   placed_at e m g = ap (λ (v : State). with_st v m) (placed_eq e m.st g)
 
   -- ---- heads where the bytes are known
-  byte_first : (p k : ℕ) (l : List ℕ) → drop p s ≡ k ∷ l → byte_at (reach s) (place p) ≡ Some (k, (place (p + 1)))
+  byte_first : (p k : ℕ) (l : List ℕ) → drop p s ≡ k ∷ l → byte_at (reach s) (place p) ≡ Some (k, place (p + 1))
   byte_first p k l e = ap (λ (z : List ℕ). byte_at z (place p)) (reach-all s (omega arith)) ∙ byte_here s p k l e
 
   decl_first : (z : Decl) (p : ℕ) (rest : List ℕ) → drop p s ≡ kind z ∷ rest → decl_head (reach s) (place p) ≡ Some (opening z (p + 1))
@@ -139,7 +139,7 @@ module _ (Γ : Env) (env : List ℕ) (cap room : ℕ) (wide : cap ≤ 32768) (br
   decl_first (annotated r x) p rest e = ap (λ (z : List ℕ). decl_head z (place p)) (reach-all s (omega arith)) ∙ head-annotated s p rest e
 
   -- a type's first byte is not 4F
-  type-first : (t : Ty) (rest : List ℕ) (p : ℕ) → drop p s ≡ spell t ++ rest → (k : ℕ) × (byte_at (reach s) (place p) ≡ Some (k, (place (p + 1)))) × (k ≡ 0x4F → ⊥)
+  type-first : (t : Ty) (rest : List ℕ) (p : ℕ) → drop p s ≡ spell t ++ rest → (k : ℕ) × (byte_at (reach s) (place p) ≡ Some (k, place (p + 1))) × (k ≡ 0x4F → ⊥)
   unfolding spell spell_atom
   type-first (base bool) rest p e = (0x40, byte_first p 0x40 rest e, λ q. omega arith)
   type-first (base int) rest p e = (0x41, byte_first p 0x41 rest e, λ q. omega arith)
@@ -148,11 +148,11 @@ module _ (Γ : Env) (env : List ℕ) (cap room : ℕ) (wide : cap ≤ 32768) (br
   type-first (prod t u) rest p e = (0x44, byte_first p 0x44 ((spell t ++ spell u) ++ rest) e, λ q. omega arith)
 
   -- ---- an ascription
-  asc_none : (x p : ℕ) (m : Mach) → byte_at (reach s) m.st.at ≡ Some (0x4F, (place (m.st.at.0 + 1))) → ascription_of s env x p m ≡ placed (m.st.at.0 + 1) (list_of 0 m.st.at.0 0xFFFF m)
+  asc_none : (x p : ℕ) (m : Mach) → byte_at (reach s) m.st.at ≡ Some (0x4F, place (m.st.at.0 + 1)) → ascription_of s env x p m ≡ placed (m.st.at.0 + 1) (list_of 0 m.st.at.0 0xFFFF m)
   unfolding ascription_of ascription_by then test
   asc_none x p m e = ap (λ (b : Option (ℕ × Place)). ascription_by s env x p b m) e
 
-  asc_type : (x p k : ℕ) (m : Mach) → byte_at (reach s) m.st.at ≡ Some (k, (place (m.st.at.0 + 1))) → (k ≡ 0x4F → ⊥) → ascription_of s env x p m ≡ spelled_of s env x m.st.at.0 p m
+  asc_type : (x p k : ℕ) (m : Mach) → byte_at (reach s) m.st.at ≡ Some (k, place (m.st.at.0 + 1)) → (k ≡ 0x4F → ⊥) → ascription_of s env x p m ≡ spelled_of s env x m.st.at.0 p m
   unfolding ascription_of ascription_by then
   asc_type x p k m e h = ap (λ (b : Option (ℕ × Place)). ascription_by s env x p b m) e ∙ test_no (eqb k 0x4F) _ _ (ne_eqb k 0x4F h)
 
@@ -180,11 +180,11 @@ module _ (Γ : Env) (env : List ℕ) (cap room : ℕ) (wide : cap ≤ 32768) (br
   unfolding claim_of
   claim-typed e x p m = refl
 
-  claim-none : (e x p : ℕ) (m : Mach) → byte_at (reach s) m.st.at ≡ Some (0x4F, (place (m.st.at.0 + 1))) → claim_of s env (Annotated (place e)) x p m ≡ placed (m.st.at.0 + 1) m
+  claim-none : (e x p : ℕ) (m : Mach) → byte_at (reach s) m.st.at ≡ Some (0x4F, place (m.st.at.0 + 1)) → claim_of s env (Annotated (place e)) x p m ≡ placed (m.st.at.0 + 1) m
   unfolding claim_of annotation_by then test
   claim-none e x p m h = ap (λ (b : Option (ℕ × Place)). annotation_by s env x p b m) h
 
-  claim-spelled : (e x p k : ℕ) (m : Mach) → byte_at (reach s) m.st.at ≡ Some (k, (place (m.st.at.0 + 1))) → (k ≡ 0x4F → ⊥) → claim_of s env (Annotated (place e)) x p m ≡ spelled_of s env x p p m
+  claim-spelled : (e x p k : ℕ) (m : Mach) → byte_at (reach s) m.st.at ≡ Some (k, place (m.st.at.0 + 1)) → (k ≡ 0x4F → ⊥) → claim_of s env (Annotated (place e)) x p m ≡ spelled_of s env x p p m
   unfolding claim_of annotation_by then
   claim-spelled e x p k m h n = ap (λ (b : Option (ℕ × Place)). annotation_by s env x p b m) h ∙ test_no (eqb k 0x4F) _ _ (ne_eqb k 0x4F n)
 

@@ -11,7 +11,7 @@ ghost use Rattle.inference.specs.Infer.{infer_of};
 ghost use Rattle.runner.specs.Answers.{called, call_of};
 ghost use Rattle.runner.specs.Calls.{formula_call};
 
-use formula::Form;
+use formula::FormError;
 use machine::State;
 use runner::Answer;
 
@@ -87,9 +87,9 @@ fn infer_formula(
     ensures { called result output.new work.new ≡ formula_call (form_of (parse_of names formula.now)) formula.now environment.now types.now capacity budget output.old work.old }
 {
     match formula::check_formula(formula, names) {
-        Form::TooLong => Answer::Oversized,
-        Form::Bad(fault) => runner::close(runner::refusal(false, fault), output, work),
-        Form::Good => {
+        Err(FormError::TooLong) => Answer::Oversized,
+        Err(FormError::At(fault)) => runner::close(runner::refusal(false, fault), output, work),
+        Ok(()) => {
             let answer = walk(
                 formula,
                 environment,
@@ -129,9 +129,11 @@ pub fn infer(
         let tested = formula::check_environment(environment, names);
         let form = tested.form;
         match form {
-            Form::TooLong => Answer::Oversized,
-            Form::Bad(fault) => runner::close(runner::refusal(true, fault), output, work),
-            Form::Good => {
+            Err(error) => match error {
+                FormError::TooLong => Answer::Oversized,
+                FormError::At(fault) => runner::close(runner::refusal(true, fault), output, work),
+            },
+            Ok(()) => {
                 let types = tested.types;
                 infer_formula(
                     formula,
