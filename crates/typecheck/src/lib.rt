@@ -13,7 +13,7 @@ ghost use Rattle.runner.specs.Calls.{formula_call};
 
 use formula::Form;
 use machine::State;
-use runner::Answer;
+use runner::{Answer, Refusal};
 
 // The walk over words whose book is empty but for the environment's types; then the tests of names and slots.
 fn run(
@@ -87,8 +87,8 @@ fn infer_formula(
     ensures { called result output.new work.new ≡ formula_call (form_of (parse_of names formula.now)) formula.now environment.now types.now capacity budget output.old work.old }
 {
     match formula::check_formula(formula, names) {
-        Form::TooLong => Answer::Oversized,
-        Form::Bad(fault) => runner::close(runner::refusal(false, fault), output, work),
+        Form::TooLong => Err(Refusal::Oversized),
+        Form::Bad(fault) => runner::close(Err(runner::formula_refusal(fault)), output, work),
         Form::Good => {
             let answer = walk(
                 formula,
@@ -119,33 +119,32 @@ pub fn infer(
 ) -> Answer
     ensures { called result output.new work.new ≡ call_of (infer_of formula.now environment.now names capacity budget (length output.old) (length work.old)) output.old work.old }
 {
-    if runner::fits(
+    if !runner::fits(
         formula.len(),
         environment.len(),
         names,
         capacity,
         work.len(),
     ) {
-        let tested = formula::check_environment(environment, names);
-        let form = tested.form;
-        match form {
-            Form::TooLong => Answer::Oversized,
-            Form::Bad(fault) => runner::close(runner::refusal(true, fault), output, work),
-            Form::Good => {
-                let types = tested.types;
-                infer_formula(
-                    formula,
-                    environment,
-                    &types,
-                    names,
-                    capacity,
-                    budget,
-                    output,
-                    work,
-                )
-            }
+        return Err(Refusal::Oversized);
+    }
+    let tested = formula::check_environment(environment, names);
+    let form = tested.form;
+    match form {
+        Form::TooLong => Err(Refusal::Oversized),
+        Form::Bad(fault) => runner::close(Err(runner::environment_refusal(fault)), output, work),
+        Form::Good => {
+            let types = tested.types;
+            infer_formula(
+                formula,
+                environment,
+                &types,
+                names,
+                capacity,
+                budget,
+                output,
+                work,
+            )
         }
-    } else {
-        Answer::Oversized
     }
 }
