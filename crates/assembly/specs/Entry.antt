@@ -33,9 +33,10 @@ use Rattle.walker.specs.Root.{formula_of}
 use Rattle.finisher.specs.Finisher.{most, finish_of, write_answer_of}
 use Rattle.simulation.specs.Whole.{walk_ends}
 use Rattle.conclusion.specs.Conclusion.{Concludes, concludes}
+use Rattle.runner.specs.declared.Input.TheVariants as In
 use Rattle.runner.specs.declared.Refusal.TheVariants.{Oversized}
 use Rattle.runner.specs.Answers.{Answer, told, brief, called, call_of}
-use Rattle.runner.specs.Run.{judged, run_of, judge_of, environment_fault, formula_fault}
+use Rattle.runner.specs.Run.{judged, run_of, judge_of, fault_of}
 use Rattle.runner.specs.Calls.{closed, formula_call, environment_call}
 use Rattle.assembly.specs.Start.{begun, begun_fresh, begun-budget}
 use Rattle.assembly.specs.Says.{Says, judge_says, closed_call, cleared-long}
@@ -116,13 +117,13 @@ blamed_call : (a : Answer) (i : I.Answer) (out work : List ℕ) → told a ≡ b
 blamed_call a i out work t b z n =
     closed_call i (judged a out) out work work (record { tells = t; holds = ap (λ (k : ℕ). take k out) z ∙ sym b; plain = n }) refl refl (ap length b ∙ sym z)
 
-environment-blamed : (fault : Fault) (out work : List ℕ) → closed (judged (Err (environment_fault fault)) out) work ≡ call_of (blamed 3 fault) out work
-unfolding blamed environment_fault told brief refused
+environment-blamed : (fault : Fault) (out work : List ℕ) → closed (judged (Err (fault_of In.Environment fault)) out) work ≡ call_of (blamed 3 fault) out work
+unfolding blamed fault_of told brief refused
 environment-blamed (F.Malformed p) out work = blamed_call _ (refused 3 p.0) out work refl refl refl (λ e. omega arith)
 environment-blamed (F.Beyond p) out work = blamed_call _ (refused 5 p.0) out work refl refl refl (λ e. omega arith)
 
-formula-blamed : (fault : Fault) (out work : List ℕ) → closed (judged (Err (formula_fault fault)) out) work ≡ call_of (blamed 4 fault) out work
-unfolding blamed formula_fault told brief refused
+formula-blamed : (fault : Fault) (out work : List ℕ) → closed (judged (Err (fault_of In.Formula fault)) out) work ≡ call_of (blamed 4 fault) out work
+unfolding blamed fault_of told brief refused
 formula-blamed (F.Malformed p) out work = blamed_call _ (refused 4 p.0) out work refl refl refl (λ e. omega arith)
 formula-blamed (F.Beyond p) out work = blamed_call _ (refused 5 p.0) out work refl refl refl (λ e. omega arith)
 

@@ -13,10 +13,11 @@ use Rattle.formula.specs.Parse.{parsed, parse_of, form_of}
 use Rattle.inference.specs.Infer.{sized, infer_of}
 use Rattle.finisher.specs.Finisher.{most}
 use Rattle.memory.specs.Memory.{cleared}
+use Rattle.runner.specs.declared.Input.TheVariants as In
 use Rattle.runner.specs.declared.Refusal.{Refusal}
 use Rattle.runner.specs.declared.Refusal.TheVariants.{Oversized}
 use Rattle.runner.specs.Answers.{Answer, told, Call, called, call_of}
-use Rattle.runner.specs.Run.{Judged, judged, run_of, judge_of, environment_fault, formula_fault}
+use Rattle.runner.specs.Run.{Judged, judged, run_of, judge_of, fault_of}
 use Rattle.runner.specs.Calls.{closed, formula_call, environment_call}
 use Rattle.assembly.specs.Entry.{calls_infer}
 
@@ -26,7 +27,7 @@ module _ (form : Form) (s env types : List ℕ) (cap budget : ℕ) (out work : L
   unfolding formula_call
   formula-long e = sym (ap (λ (f : Form). formula_call f s env types cap budget out work) e)
 
-  pub formula-bad : (f : Fault) (a : Refusal) (r : Answer) (out' work' : List ℕ) → form ≡ Bad f → a ≡ formula_fault f → called r out' work' ≡ called (Err a) (cleared (told (Err a)).size out) (cleared 0 work)
+  pub formula-bad : (f : Fault) (a : Refusal) (r : Answer) (out' work' : List ℕ) → form ≡ Bad f → a ≡ fault_of In.Formula f → called r out' work' ≡ called (Err a) (cleared (told (Err a)).size out) (cleared 0 work)
       → called r out' work' ≡ formula_call form s env types cap budget out work
   unfolding formula_call closed
   formula-bad f a r out' work' e b c =
@@ -59,7 +60,7 @@ module _ (s env : List ℕ) (names cap budget : ℕ) (out work : List ℕ) (t : 
   unfolding environment_call called
   infer_long e = infers (called (Err Oversized) out work) (sym (ap (λ (g : Form). environment_call g (form_of (parse_of names s)) s env t.types cap budget out work) e)) refl
 
-  pub infer_bad : (f : Fault) (a : Refusal) (r : Answer) (out' work' : List ℕ) → t.form ≡ Bad f → a ≡ environment_fault f → called r out' work' ≡ called (Err a) (cleared (told (Err a)).size out) (cleared 0 work) → length out' ≡ length out
+  pub infer_bad : (f : Fault) (a : Refusal) (r : Answer) (out' work' : List ℕ) → t.form ≡ Bad f → a ≡ fault_of In.Environment f → called r out' work' ≡ called (Err a) (cleared (told (Err a)).size out) (cleared 0 work) → length out' ≡ length out
       → called r out' work' ≡ call_of (infer_of s env names cap budget (length out) (length work)) out work
   unfolding environment_call closed called
   infer_bad f a r out' work' e b c l =

@@ -13,7 +13,7 @@ ghost use Rattle.runner.specs.Calls.{formula_call};
 
 use formula::Form;
 use machine::State;
-use runner::{Answer, Refusal};
+use runner::{Answer, Input, Refusal};
 
 // The walk over words whose book is empty but for the environment's types; then the tests of names and slots.
 fn run(
@@ -88,7 +88,7 @@ fn infer_formula(
 {
     match formula::check_formula(formula, names) {
         Form::TooLong => Err(Refusal::Oversized),
-        Form::Bad(fault) => runner::close(Err(runner::formula_refusal(fault)), output, work),
+        Form::Bad(fault) => runner::close(Err(runner::blame(Input::Formula, fault)), output, work),
         Form::Good => {
             let answer = walk(
                 formula,
@@ -132,7 +132,11 @@ pub fn infer(
     let form = tested.form;
     match form {
         Form::TooLong => Err(Refusal::Oversized),
-        Form::Bad(fault) => runner::close(Err(runner::environment_refusal(fault)), output, work),
+        Form::Bad(fault) => runner::close(
+            Err(runner::blame(Input::Environment, fault)),
+            output,
+            work,
+        ),
         Form::Good => {
             let types = tested.types;
             infer_formula(

@@ -11,7 +11,7 @@ pub returns-in-TooLong : goal.returns-in-TooLong
 returns-in-TooLong c = infer_long c.args.formula.now c.args.environment.now c.args.names c.args.capacity c.args.budget c.args.output.now c.args.work.now c.check_environment-tested.result c.check_environment-tested.ensures (λ i. omega (arith, c.type_inv.formula i)) (λ i. omega (arith, c.type_inv.environment i)) (search rules) (sym c.fits.ensures ∙ c.if-not-fits.false) c.in-TooLong.is
 
 pub returns-in-Bad : goal.returns-in-Bad
-returns-in-Bad c = infer_bad c.args.formula.now c.args.environment.now c.args.names c.args.capacity c.args.budget c.args.output.now c.args.work.now c.check_environment-tested.result c.check_environment-tested.ensures (λ i. omega (arith, c.type_inv.formula i)) (λ i. omega (arith, c.type_inv.environment i)) (search rules) (sym c.fits.ensures ∙ c.if-not-fits.false) _ c.environment_refusal.result c.close.result c.close.new.output c.close.new.work c.in-Bad.is c.environment_refusal.ensures c.close.ensures c.close.auto.output
+returns-in-Bad c = infer_bad c.args.formula.now c.args.environment.now c.args.names c.args.capacity c.args.budget c.args.output.now c.args.work.now c.check_environment-tested.result c.check_environment-tested.ensures (λ i. omega (arith, c.type_inv.formula i)) (λ i. omega (arith, c.type_inv.environment i)) (search rules) (sym c.fits.ensures ∙ c.if-not-fits.false) _ c.blame.result c.close.result c.close.new.output c.close.new.work c.in-Bad.is c.blame.ensures c.close.ensures c.close.auto.output
 
 pub returns-in-Good : goal.returns-in-Good
 returns-in-Good c = infer_good c.args.formula.now c.args.environment.now c.args.names c.args.capacity c.args.budget c.args.output.now c.args.work.now c.check_environment-tested.result c.check_environment-tested.ensures (λ i. omega (arith, c.type_inv.formula i)) (λ i. omega (arith, c.type_inv.environment i)) (search rules) (sym c.fits.ensures ∙ c.if-not-fits.false) c.infer_formula.result c.infer_formula.new.output c.infer_formula.new.work c.in-Good.is c.infer_formula.ensures c.infer_formula.auto.output
