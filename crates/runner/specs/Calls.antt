@@ -5,9 +5,10 @@ use Rattle.types.specs.Limits.{book}
 use Rattle.formula.specs.Parse.{Form}
 use Rattle.formula.specs.declared.FormError.TheVariants.{TooLong, At}
 use Rattle.memory.specs.Memory.{cleared}
+use Rattle.runner.specs.declared.Input.TheVariants.{Environment, Formula}
 use Rattle.runner.specs.declared.Refusal.TheVariants.{Oversized}
 use Rattle.runner.specs.Answers.{told, Call, called}
-use Rattle.runner.specs.Run.{Judged, judged, run_of, judge_of, environment_fault, formula_fault}
+use Rattle.runner.specs.Run.{Judged, judged, run_of, judge_of, fault_of}
 
 -- zeros after the answer's bytes, and in all of the work slice
 unfoldable pub closed : Judged → List ℕ → Call
@@ -15,10 +16,10 @@ closed j work = called j.answer (cleared (told j.answer).size j.out) (cleared 0 
 
 unfoldable pub formula_call : Form → List ℕ → List ℕ → List ℕ → ℕ → ℕ → List ℕ → List ℕ → Call
 formula_call (Err TooLong) s env types capacity budget out work = called (Err Oversized) out work
-formula_call (Err (At f)) s env types capacity budget out work = closed (judged (Err (formula_fault f)) out) work
+formula_call (Err (At f)) s env types capacity budget out work = closed (judged (Err (fault_of Formula f)) out) work
 formula_call (Ok u) s env types capacity budget out work = closed (judge_of budget (run_of s env types (capacity * 3) budget (take (capacity * 3 + book) work) out)) work
 
 unfoldable pub environment_call : Form → Form → List ℕ → List ℕ → List ℕ → ℕ → ℕ → List ℕ → List ℕ → Call
 environment_call (Err TooLong) form s env types capacity budget out work = called (Err Oversized) out work
-environment_call (Err (At f)) form s env types capacity budget out work = closed (judged (Err (environment_fault f)) out) work
+environment_call (Err (At f)) form s env types capacity budget out work = closed (judged (Err (fault_of Environment f)) out) work
 environment_call (Ok u) form s env types capacity budget out work = formula_call form s env types capacity budget out work

@@ -13,6 +13,8 @@ use Rattle.finisher.specs.Finisher.{finish_of, write_answer_of}
 use Rattle.runner.specs.Begin.{start_of, entered_of}
 use Rattle.runner.specs.declared.Verdict.{Verdict}
 use Rattle.runner.specs.declared.Verdict.TheVariants.{Typed, Problems}
+use Rattle.runner.specs.declared.Input.{Input}
+use Rattle.runner.specs.declared.Input.TheVariants.{Environment, Formula}
 use Rattle.runner.specs.declared.Refusal.{Refusal}
 use Rattle.runner.specs.declared.Refusal.TheVariants.{Oversized, BadEnvironment, BadFormula, Beyond, Full, Spent, NoRoom}
 use Rattle.runner.specs.Answers.{Answer}
@@ -50,10 +52,8 @@ judge_of budget m =
     (λ _. judged (verdict_of Problems budget m.st) m.out)
 
 -- a fault of form, of the environment or of the formula
-unfoldable pub environment_fault : Fault Place → Refusal
-environment_fault (F.Malformed p) = BadEnvironment p
-environment_fault (F.Beyond p) = Beyond p
-
-unfoldable pub formula_fault : Fault Place → Refusal
-formula_fault (F.Malformed p) = BadFormula p
-formula_fault (F.Beyond p) = Beyond p
+unfoldable pub fault_of : Input → Fault Place → Refusal
+fault_of Environment (F.Malformed p) = BadEnvironment p
+fault_of Environment (F.Beyond p) = Beyond p
+fault_of Formula (F.Malformed p) = BadFormula p
+fault_of Formula (F.Beyond p) = Beyond p

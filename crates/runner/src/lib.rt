@@ -8,7 +8,7 @@ ghost use Rattle.machine.specs.State as S;
 ghost use Rattle.memory.specs.Memory.{cleared};
 ghost use Rattle.runner.specs.Answers.{told, called};
 ghost use Rattle.runner.specs.Begin.{start_of, entered_of};
-ghost use Rattle.runner.specs.Run.{verdict_of, judged, judge_of, environment_fault, formula_fault};
+ghost use Rattle.runner.specs.Run.{verdict_of, judged, judge_of, fault_of};
 
 use machine::State;
 use types::{Fault, NodeRef, Place};
@@ -47,6 +47,13 @@ pub enum Refusal {
     Spent,
     // 8
     NoRoom,
+}
+
+// Where a fault of form stands.
+#[derive(Clone, Copy, PartialEq, Eq)]
+pub enum Input {
+    Environment,
+    Formula,
 }
 
 // What inference answers.
@@ -156,24 +163,16 @@ pub fn close(answer: Answer, output: &mut [u8], work: &mut [u32]) -> Answer
     answer
 }
 
-// A fault of the environment's form, as a refusal.
-#[tactic(auto, unfolding(crate::specs::Run::environment_fault))]
-pub fn environment_refusal(fault: Fault<Place>) -> Refusal
-    ensures { result ≡ environment_fault fault }
+// A fault of form, as a refusal.
+#[tactic(auto, unfolding(crate::specs::Run::fault_of))]
+pub fn blame(input: Input, fault: Fault<Place>) -> Refusal
+    ensures { result ≡ fault_of input fault }
 {
     match fault {
-        Fault::Malformed(p) => Refusal::BadEnvironment(p),
-        Fault::Beyond(p) => Refusal::Beyond(p),
-    }
-}
-
-// A fault of the formula's form, as a refusal.
-#[tactic(auto, unfolding(crate::specs::Run::formula_fault))]
-pub fn formula_refusal(fault: Fault<Place>) -> Refusal
-    ensures { result ≡ formula_fault fault }
-{
-    match fault {
-        Fault::Malformed(p) => Refusal::BadFormula(p),
+        Fault::Malformed(p) => match input {
+            Input::Environment => Refusal::BadEnvironment(p),
+            Input::Formula => Refusal::BadFormula(p),
+        },
         Fault::Beyond(p) => Refusal::Beyond(p),
     }
 }

@@ -11,7 +11,7 @@ use Rattle.walker.specs.Root.{formula_of}
 use Rattle.finisher.specs.Finisher.{finish_of}
 use Rattle.runner.specs.Begin.{start_of, entered_of}
 use Rattle.runner.specs.Run.{judged, run_of, judge_of}
-use Rattle.runner.specs.declared.Answer.{Answer}
+use Rattle.runner.specs.Answers.{Answer}
 
 -- the machine that the walk begins with
 began : (size budget : ℕ) (st : State) (types w w1 w2 out : List ℕ) → st ≡ start_of budget → w1 ≡ cleared size w → ((v : State) (o : List ℕ) → mach size v w2 o ≡ entered_of types (mach size v w1 o))

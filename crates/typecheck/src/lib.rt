@@ -13,7 +13,7 @@ ghost use Rattle.runner.specs.Calls.{formula_call};
 
 use formula::FormError;
 use machine::State;
-use runner::Answer;
+use runner::{Answer, Input, Refusal};
 
 // The walk over words whose book is empty but for the environment's types; then the tests of names and slots.
 fn run(
@@ -87,8 +87,8 @@ fn infer_formula(
     ensures { called result output.new work.new ≡ formula_call (form_of (parse_of names formula.now)) formula.now environment.now types.now capacity budget output.old work.old }
 {
     match formula::check_formula(formula, names) {
-        Err(FormError::TooLong) => Answer::Oversized,
-        Err(FormError::At(fault)) => runner::close(runner::refusal(false, fault), output, work),
+        Err(FormError::TooLong) => Err(Refusal::Oversized),
+        Err(FormError::At(fault)) => runner::close(Err(runner::blame(Input::Formula, fault)), output, work),
         Ok(()) => {
             let answer = walk(
                 formula,
@@ -119,35 +119,36 @@ pub fn infer(
 ) -> Answer
     ensures { called result output.new work.new ≡ call_of (infer_of formula.now environment.now names capacity budget (length output.old) (length work.old)) output.old work.old }
 {
-    if runner::fits(
+    if !runner::fits(
         formula.len(),
         environment.len(),
         names,
         capacity,
         work.len(),
     ) {
-        let tested = formula::check_environment(environment, names);
-        let form = tested.form;
-        match form {
-            Err(error) => match error {
-                FormError::TooLong => Answer::Oversized,
-                FormError::At(fault) => runner::close(runner::refusal(true, fault), output, work),
-            },
-            Ok(()) => {
-                let types = tested.types;
-                infer_formula(
-                    formula,
-                    environment,
-                    &types,
-                    names,
-                    capacity,
-                    budget,
-                    output,
-                    work,
-                )
-            }
+        return Err(Refusal::Oversized);
+    }
+    let tested = formula::check_environment(environment, names);
+    let form = tested.form;
+    match form {
+        Err(FormError::TooLong) => Err(Refusal::Oversized),
+        Err(FormError::At(fault)) => runner::close(
+            Err(runner::blame(Input::Environment, fault)),
+            output,
+            work,
+        ),
+        Ok(()) => {
+            let types = tested.types;
+            infer_formula(
+                formula,
+                environment,
+                &types,
+                names,
+                capacity,
+                budget,
+                output,
+                work,
+            )
         }
-    } else {
-        Answer::Oversized
     }
 }
