@@ -1,6 +1,6 @@
 -- Laws that the proofs of the machine's steps cite: the arena lent as the first words of the work slice, what the unifier's answers do, and the
 -- recursive readers at a number of levels.
-use Rattle.std.proofs.Common.{ℕ, zero, suc, ◌+◌, ◌-◌, ◌*◌, ◌≤◌, ◌<◌, sym, arith, sub-one, length-take-le, List, [], ◌∷◌, ◌++◌, lt-ltb, le-ltb, ne_eqb, ◌≡◌, ap, ap₂, ◌∙◌, refl, eqb, length, take, drop, set, mul-le-mul_right, le_of_lt, drop_of_length-le}
+use Rattle.std.proofs.Common.{Result, Ok, Err, ℕ, zero, suc, ◌+◌, ◌-◌, ◌*◌, ◌≤◌, ◌<◌, sym, arith, sub-one, length-take-le, List, [], ◌∷◌, ◌++◌, lt-ltb, le-ltb, ne_eqb, ◌≡◌, ap, ap₂, ◌∙◌, refl, eqb, length, take, drop, set, mul-le-mul_right, le_of_lt, drop_of_length-le}
 use Rattle.std.proofs.Math.Decide.{dec_lt}
 use Rattle.std.proofs.Math.Seq.{take_all, take_at, drop_at, set_out}
 use Rattle.std.proofs.lemmas.List.{take-set-le, drop-set-add}
@@ -17,10 +17,12 @@ use Rattle.types.specs.Record.{reach}
 use Rattle.heads.specs.Heads.{byte_at}
 use Rattle.unification.specs.Arena as A
 use Rattle.unification.specs.Make.{build}
-use Rattle.makers.specs.declared.Made.{Made}
-use Rattle.makers.specs.declared.Made.TheVariants as Ma
-use Rattle.unifier.specs.declared.Unified.{Unified}
-use Rattle.unifier.specs.declared.Unified.TheVariants as Un
+use Rattle.makers.specs.declared.MakeError.{MakeError}
+use Rattle.makers.specs.declared.MakeError.TheVariants as Ma
+use Rattle.unifier.specs.declared.Halt.{Halt}
+use Rattle.unifier.specs.declared.Halt.TheVariants as H
+use Rattle.unifier.specs.declared.Verdict.{Verdict}
+use Rattle.unifier.specs.declared.Verdict.TheVariants as V
 use Rattle.makers.specs.Answers.{made}
 use Rattle.unifier.specs.Answers.{settled}
 use Rattle.machine.specs.declared.State.{State}
@@ -84,48 +86,48 @@ lent_by size n w last (no l) e h =
 pub lent : (size n : ℕ) (w last : List ℕ) → n ≡ smaller size (length w) → length last ≡ length (take n w) → Lent size n w last
 lent size n w last e h = lent_by size n w last (dec_lt size (length w)) e h
 
-pub lent_push : (r : Made) (size n count : ℕ) (w last : List ℕ) (d e : A.Node) → Lent size n w last → made r last ≡ build (take n w) count d → d ≡ e
+pub lent_push : (r : Result NodeRef MakeError) (size n count : ℕ) (w last : List ℕ) (d e : A.Node) → Lent size n w last → made r last ≡ build (take n w) count d → d ≡ e
     → (made r (take size (last ++ drop n w)) ≡ build (take size w) count e) × (drop size (last ++ drop n w) ≡ drop size w)
 lent_push r size n count w last d e h k q = (ap (made r) h.front ∙ k ∙ ap₂ (λ (l : List ℕ) (x : A.Node). build l count x) h.part q, h.behind)
 
-pub lent-unify : (r : Unified) (size n count a b budget : ℕ) (w last : List ℕ) → Lent size n w last → settled r last ≡ A.unify count (take n w, a, b) budget
-    → (settled r (take size (last ++ drop n w)) ≡ A.unify count (take size w, a, b) budget) × (drop size (last ++ drop n w) ≡ drop size w)
-lent-unify r size n count a b budget w last h k = (ap (settled r) h.front ∙ k ∙ ap (λ (l : List ℕ). A.unify count (l, a, b) budget) h.part, h.behind)
+pub lent-unify : (r : Result Verdict Halt) (k size n count a b budget : ℕ) (w last : List ℕ) → Lent size n w last → settled r k last ≡ A.unify count (take n w, a, b) budget
+    → (settled r k (take size (last ++ drop n w)) ≡ A.unify count (take size w, a, b) budget) × (drop size (last ++ drop n w) ≡ drop size w)
+lent-unify r k size n count a b budget w last h e = (ap (settled r k) h.front ∙ e ∙ ap (λ (l : List ℕ). A.unify count (l, a, b) budget) h.part, h.behind)
 
 -- ---- what the unifier's answers do
 module _ (size : ℕ) (v r : State) (w w' out : List ℕ) (b : drop size w' ≡ drop size w) where
-  pub made_at : (t : NodeRef) (m : M (List ℕ) (ℕ × List ℕ)) → made (Ma.At t) (take size w') ≡ m → r ≡ grown_of t.0 v → mach size r w' out ≡ grown_by (m 0) (mach size v w out)
+  pub made_at : (t : NodeRef) (m : M (List ℕ) (ℕ × List ℕ)) → made (Ok t) (take size w') ≡ m → r ≡ grown_of t.0 v → mach size r w' out ≡ grown_by (m 0) (mach size v w out)
   unfolding grown_by then ret
   made_at t m e h = ap₂ (λ (x : State) (l : List ℕ). whole x (take size w') l out) h b ∙ ap (λ (f : M (List ℕ) (ℕ × List ℕ)). grown_by (f 0) (mach size v w out)) e
 
-  pub made_full : (m : M (List ℕ) (ℕ × List ℕ)) → made Ma.Full (take size w') ≡ m → r ≡ stopped_of 6 v → mach size r w' out ≡ grown_by (m 0) (mach size v w out)
+  pub made_full : (m : M (List ℕ) (ℕ × List ℕ)) → made (Err Ma.Full) (take size w') ≡ m → r ≡ stopped_of 6 v → mach size r w' out ≡ grown_by (m 0) (mach size v w out)
   unfolding grown_by then fail
   made_full m e h = ap₂ (λ (x : State) (l : List ℕ). whole x (take size w') l out) h b ∙ ap (λ (f : M (List ℕ) (ℕ × List ℕ)). grown_by (f 0) (mach size v w out)) e
 
-  pub made_broken : (m : M (List ℕ) (ℕ × List ℕ)) → made Ma.Broken (take size w') ≡ m → r ≡ stopped_of 2 v → mach size r w' out ≡ grown_by (m 0) (mach size v w out)
+  pub made_broken : (m : M (List ℕ) (ℕ × List ℕ)) → made (Err Ma.Broken) (take size w') ≡ m → r ≡ stopped_of 2 v → mach size r w' out ≡ grown_by (m 0) (mach size v w out)
   unfolding grown_by then fail
   made_broken m e h = ap₂ (λ (x : State) (l : List ℕ). whole x (take size w') l out) h b ∙ ap (λ (f : M (List ℕ) (ℕ × List ℕ)). grown_by (f 0) (mach size v w out)) e
 
-  pub settled-done : (l p : ℕ) (o : Out (List ℕ) A.Answer) → settled (Un.Done l) (take size w') ≡ o → r ≡ left_of l v → mach size r w' out ≡ settled_by o p (mach size v w out)
+  pub settled-done : (l p : ℕ) (o : Out (List ℕ) A.Answer) → settled (Ok V.Done) l (take size w') ≡ o → r ≡ left_of l v → mach size r w' out ≡ settled_by o p (mach size v w out)
   unfolding settled_by judged_by then
   settled-done l p o e h = ap₂ (λ (x : State) (l : List ℕ). whole x (take size w') l out) h b ∙ ap (λ (x : Out (List ℕ) A.Answer). settled_by x p (mach size v w out)) e
 
-  pub settled-spent : (p : ℕ) (o : Out (List ℕ) A.Answer) → settled Un.Spent (take size w') ≡ o → r ≡ stopped_of 7 v → mach size r w' out ≡ settled_by o p (mach size v w out)
+  pub settled-spent : (l p : ℕ) (o : Out (List ℕ) A.Answer) → settled (Err H.Spent) l (take size w') ≡ o → r ≡ stopped_of 7 v → mach size r w' out ≡ settled_by o p (mach size v w out)
   unfolding settled_by then
-  settled-spent p o e h = ap₂ (λ (x : State) (l : List ℕ). whole x (take size w') l out) h b ∙ ap (λ (x : Out (List ℕ) A.Answer). settled_by x p (mach size v w out)) e
+  settled-spent l p o e h = ap₂ (λ (x : State) (l : List ℕ). whole x (take size w') l out) h b ∙ ap (λ (x : Out (List ℕ) A.Answer). settled_by x p (mach size v w out)) e
 
-  pub settled_broken : (p : ℕ) (o : Out (List ℕ) A.Answer) → settled Un.Broken (take size w') ≡ o → r ≡ stopped_of 2 v → mach size r w' out ≡ settled_by o p (mach size v w out)
+  pub settled_broken : (l p : ℕ) (o : Out (List ℕ) A.Answer) → settled (Err H.Broken) l (take size w') ≡ o → r ≡ stopped_of 2 v → mach size r w' out ≡ settled_by o p (mach size v w out)
   unfolding settled_by then
-  settled_broken p o e h = ap₂ (λ (x : State) (l : List ℕ). whole x (take size w') l out) h b ∙ ap (λ (x : Out (List ℕ) A.Answer). settled_by x p (mach size v w out)) e
+  settled_broken l p o e h = ap₂ (λ (x : State) (l : List ℕ). whole x (take size w') l out) h b ∙ ap (λ (x : Out (List ℕ) A.Answer). settled_by x p (mach size v w out)) e
 
 -- a problem listed: x is the state after it, and q the output
 module _ (size : ℕ) (v r x : State) (w w' out q : List ℕ) (b : drop size w' ≡ drop size w) where
-  pub settled_mismatch : (l p : ℕ) (o : Out (List ℕ) A.Answer) → settled (Un.Mismatch l) (take size w') ≡ o → r ≡ left_of l v
+  pub settled_mismatch : (l p : ℕ) (o : Out (List ℕ) A.Answer) → settled (Ok V.Mismatch) l (take size w') ≡ o → r ≡ left_of l v
       → whole x (take size w') (drop size w') q ≡ list_of 0 p 0xFFFF (whole r (take size w') (drop size w') out) → mach size x w' q ≡ settled_by o p (mach size v w out)
   unfolding settled_by judged_by then
   settled_mismatch l p o e h k = k ∙ ap₂ (λ (y : State) (z : List ℕ). list_of 0 p 0xFFFF (whole y (take size w') z out)) h b ∙ ap (λ (y : Out (List ℕ) A.Answer). settled_by y p (mach size v w out)) e
 
-  pub settled_circular : (l p : ℕ) (o : Out (List ℕ) A.Answer) → settled (Un.Circular l) (take size w') ≡ o → r ≡ left_of l v
+  pub settled_circular : (l p : ℕ) (o : Out (List ℕ) A.Answer) → settled (Ok V.Circular) l (take size w') ≡ o → r ≡ left_of l v
       → whole x (take size w') (drop size w') q ≡ list_of 1 p 0xFFFF (whole r (take size w') (drop size w') out) → mach size x w' q ≡ settled_by o p (mach size v w out)
   unfolding settled_by judged_by then
   settled_circular l p o e h k = k ∙ ap₂ (λ (y : State) (z : List ℕ). list_of 1 p 0xFFFF (whole y (take size w') z out)) h b ∙ ap (λ (y : Out (List ℕ) A.Answer). settled_by y p (mach size v w out)) e

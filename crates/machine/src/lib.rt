@@ -15,10 +15,10 @@ ghost use Rattle.machine.specs.Types.{skip_of, atom_of, lift_of, free_of, bound_
 ghost use Rattle.machine.specs.Scripts.{chosen_of, place_of, item_of, play_of, parts_of};
 
 use heads::{Byte, DeclAt, DeclHead};
-use makers::Made;
+use makers::MakeError;
 use operators::Item;
 use types::{Atom, Head, Name, NodeRef, Place};
-use unifier::{Told, Unified};
+use unifier::{Halt, Verdict};
 
 // ---- the state
 
@@ -313,7 +313,14 @@ fn within(size: u32, most: usize) -> usize
     if n < most { n } else { most }
 }
 
-fn push(work: &mut [u32], size: u32, count: u32, kind: u32, a: u32, b: u32) -> Made
+fn push(
+    work: &mut [u32],
+    size: u32,
+    count: u32,
+    kind: u32,
+    a: u32,
+    b: u32,
+) -> Result<NodeRef, MakeError>
     ensures work_after { made result (take size work.new) ≡ build (take size work.old) count (decode kind a b) }
     ensures work_unchanged { drop size work.new ≡ drop size work.old }
 {
@@ -325,24 +332,31 @@ fn push(work: &mut [u32], size: u32, count: u32, kind: u32, a: u32, b: u32) -> M
         0x42 => makers::given(&mut work[..n], count, Name(a)),
         0x43 => makers::pow(&mut work[..n], count, NodeRef(a)),
         0x44 => makers::prod(&mut work[..n], count, NodeRef(a), NodeRef(b)),
-        _ => Made::Broken,
+        _ => Err(MakeError::Broken),
     }
 }
 
-fn unified(work: &mut [u32], size: u32, count: u32, a: NodeRef, b: NodeRef, budget: u64) -> Unified
-    ensures work_after { settled result (take size work.new) ≡ unify count (take size work.old, a.0, b.0) budget }
+fn unified(
+    work: &mut [u32],
+    size: u32,
+    count: u32,
+    a: NodeRef,
+    b: NodeRef,
+    left: &mut u64,
+) -> Result<Verdict, Halt>
+    ensures work_after { settled result left.new (take size work.new) ≡ unify count (take size work.old, a.0, b.0) left.old }
     ensures work_unchanged { drop size work.new ≡ drop size work.old }
 {
     let n = within(size, work.len());
-    unifier::unify(&mut work[..n], count, a, b, budget)
+    unifier::unify(&mut work[..n], count, a, b, left)
 }
 
 // Whether no unknown remains below a reference.
-pub fn solved(work: &[u32], size: u32, count: u32, t: NodeRef, budget: u64) -> Told
-    ensures { told result ≡ solved (take size work.now) count t.0 budget }
+pub fn solved(work: &[u32], size: u32, count: u32, t: NodeRef, left: &mut u64) -> Result<bool, Halt>
+    ensures { told result left.new ≡ solved (take size work.now) count t.0 left.old }
 {
     let n = within(size, work.len());
-    unifier::solved(&work[..n], count, t, budget)
+    unifier::solved(&work[..n], count, t, left)
 }
 
 // A node is made.
@@ -354,9 +368,9 @@ pub fn make(work: &mut [u32], size: u32, kind: u32, a: u32, b: u32, st: State) -
     }
     let made = push(work, size, st.nodes, kind, a, b);
     match made {
-        Made::At(r) => grown(r, st),
-        Made::Full => stopped(6, st),
-        Made::Broken => stopped(2, st),
+        Ok(r) => grown(r, st),
+        Err(MakeError::Full) => stopped(6, st),
+        Err(MakeError::Broken) => stopped(2, st),
     }
 }
 
@@ -375,13 +389,14 @@ pub fn expect(
     if st.stop != 0 {
         return st;
     }
-    let ended = unified(work, size, st.nodes, a, b, st.budget);
+    let mut left = st.budget;
+    let ended = unified(work, size, st.nodes, a, b, &mut left);
     match ended {
-        Unified::Done(left) => left_with(left, st),
-        Unified::Mismatch(left) => list(output, 0, place, Name(NO_NAME), left_with(left, st)),
-        Unified::Circular(left) => list(output, 1, place, Name(NO_NAME), left_with(left, st)),
-        Unified::Spent => stopped(7, st),
-        Unified::Broken => stopped(2, st),
+        Ok(Verdict::Done) => left_with(left, st),
+        Ok(Verdict::Mismatch) => list(output, 0, place, Name(NO_NAME), left_with(left, st)),
+        Ok(Verdict::Circular) => list(output, 1, place, Name(NO_NAME), left_with(left, st)),
+        Err(Halt::Spent) => stopped(7, st),
+        Err(Halt::Broken) => stopped(2, st),
     }
 }
 
@@ -459,8 +474,10 @@ pub fn skip(s: &[u8], left: u32, st: State) -> State
     if left == 0 {
         return stopped(2, st);
     }
-    match types::head_at(s, types::MAX_NAMES, st.at.0 as usize) {
-        Head::Wrong => stopped(2, st),
+    let Some(head) = types::head_at(s, types::MAX_NAMES, st.at.0 as usize) else {
+        return stopped(2, st);
+    };
+    match head {
         Head::Atomic(_, e) => passed(e, st),
         Head::Power(e) => skip(s, left - 1, passed(e, st)),
         Head::Product(e) => {
@@ -491,8 +508,10 @@ fn lift(s: &[u8], work: &mut [u32], size: u32, left: u32, st: State) -> State
     if left == 0 {
         return stopped(2, st);
     }
-    match types::head_at(s, types::MAX_NAMES, st.at.0 as usize) {
-        Head::Wrong => stopped(2, st),
+    let Some(head) = types::head_at(s, types::MAX_NAMES, st.at.0 as usize) else {
+        return stopped(2, st);
+    };
+    match head {
         Head::Atomic(a, e) => atom(work, size, a, passed(e, st)),
         Head::Power(e) => {
             let a = lift(s, work, size, left - 1, passed(e, st));
@@ -630,8 +649,10 @@ fn note_spelled_givens(
     if left == 0 {
         return stopped(2, st);
     }
-    match types::head_at(s, types::MAX_NAMES, st.at.0 as usize) {
-        Head::Wrong => stopped(2, st),
+    let Some(head) = types::head_at(s, types::MAX_NAMES, st.at.0 as usize) else {
+        return stopped(2, st);
+    };
+    match head {
         Head::Atomic(a, e) => noted(environment, work, output, size, a, place, passed(e, st)),
         Head::Power(e) => {
             let a = passed(e, st);

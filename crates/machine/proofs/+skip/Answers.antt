@@ -1,4 +1,4 @@
-use Rattle.std.proofs.Common.{refl, sym, ap, arith, ◌∙◌}
+use Rattle.std.proofs.Common.{refl, ◌≡◌, None, Some, sym, ap, arith, ◌∙◌}
 use Rattle.types.specs.Code.{head_is}
 use Rattle.forms.specs.Forms.{step, yes_eq, no_eq}
 use Rattle.machine.specs.Types.{skip_by}
@@ -20,18 +20,18 @@ skip-a-requires t c = (omega (arith, c.decreases, c.if-left-eq0.false, c.if-st-n
 pub skip-requires-in-Product : goal.skip-requires-in-Product
 skip-requires-in-Product t c = (omega (arith, c.decreases, c.if-left-eq0.false, c.if-st-ne0.false), tt)
 
-pub returns-in-Wrong : goal.returns-in-Wrong
+pub returns-in_default : goal.returns-in_default
 unfolding skip_by head_is
-returns-in-Wrong t c = by_skip _ _ _ _ (yes_eq _ _ _ _ _ c.if-st-ne0.false (no_eq _ _ _ _ _ c.if-left-eq0.false (step _ _ _ _ (ap head_is (sym c.in-Wrong.is) ∙ c.head_at.ensures) c.stopped-in-Wrong.ensures)))
+returns-in_default t c = let n : c.head_at.result ≡ None = grind arith in by_skip _ _ _ _ (yes_eq _ _ _ _ _ c.if-st-ne0.false (no_eq _ _ _ _ _ c.if-left-eq0.false (step _ _ _ _ (ap head_is (sym n) ∙ c.head_at.ensures) c.stopped-in_default.ensures)))
 
 pub returns-in-Atomic : goal.returns-in-Atomic
 unfolding skip_by head_is
-returns-in-Atomic t c = by_skip _ _ _ _ (yes_eq _ _ _ _ _ c.if-st-ne0.false (no_eq _ _ _ _ _ c.if-left-eq0.false (step _ _ _ _ (ap head_is (sym c.in-Atomic.is) ∙ c.head_at.ensures) c.passed.ensures)))
+returns-in-Atomic t c = by_skip _ _ _ _ (yes_eq _ _ _ _ _ c.if-st-ne0.false (no_eq _ _ _ _ _ c.if-left-eq0.false (step _ _ _ _ (ap (λ h. head_is (Some h)) (sym c.in-Atomic.is) ∙ c.in-Some.ensures) c.passed.ensures)))
 
 pub returns-in-Power : goal.returns-in-Power
 unfolding skip_by head_is
-returns-in-Power t c = by_skip _ _ _ _ (yes_eq _ _ _ _ _ c.if-st-ne0.false (no_eq _ _ _ _ _ c.if-left-eq0.false (step _ _ _ _ (ap head_is (sym c.in-Power.is) ∙ c.head_at.ensures) (step _ _ _ _ c.passed-in-Power.ensures c.skip.ensures))))
+returns-in-Power t c = by_skip _ _ _ _ (yes_eq _ _ _ _ _ c.if-st-ne0.false (no_eq _ _ _ _ _ c.if-left-eq0.false (step _ _ _ _ (ap (λ h. head_is (Some h)) (sym c.in-Power.is) ∙ c.in-Some.ensures) (step _ _ _ _ c.passed-in-Power.ensures c.skip.ensures))))
 
 pub returns-in-Product : goal.returns-in-Product
 unfolding skip_by head_is
-returns-in-Product t c = by_skip _ _ _ _ (yes_eq _ _ _ _ _ c.if-st-ne0.false (no_eq _ _ _ _ _ c.if-left-eq0.false (step _ _ _ _ (ap head_is (sym c.in-Product.is) ∙ c.head_at.ensures) (step _ _ _ _ c.passed-in-Product.ensures (step _ _ _ _ c.skip-a.ensures c.skip-in-Product.ensures)))))
+returns-in-Product t c = by_skip _ _ _ _ (yes_eq _ _ _ _ _ c.if-st-ne0.false (no_eq _ _ _ _ _ c.if-left-eq0.false (step _ _ _ _ (ap (λ h. head_is (Some h)) (sym c.in-Product.is) ∙ c.in-Some.ensures) (step _ _ _ _ c.passed-in-Product.ensures (step _ _ _ _ c.skip-a.ensures c.skip-in-Product.ensures)))))

@@ -7,4 +7,4 @@ pub slice_bounds-solved-end : goal.slice_bounds-solved-end
 slice_bounds-solved-end c = sym (length-take-le _ _ c.within-n.ensures.upper_bound)
 
 pub returns : goal.returns
-returns c = c.solved.ensures ∙ ap (λ (l : List ℕ). solved l c.args.count c.args.t.0 c.args.budget) (lent c.args.size c.within-n.result c.args.work.now (take c.within-n.result c.args.work.now) c.within-n.ensures.value refl).part
+returns c = c.solved.ensures ∙ ap (λ (l : List ℕ). solved l c.args.count c.args.t.0 c.args.left.now) (lent c.args.size c.within-n.result c.args.work.now (take c.within-n.result c.args.work.now) c.within-n.ensures.value refl).part
