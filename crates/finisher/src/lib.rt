@@ -6,12 +6,12 @@ ghost use Rattle.std.specs.Prelude.{◌≡◌, ℕ, ◌≤◌, take};
 ghost use Rattle.unification.specs.Put.{put};
 ghost use Rattle.write.specs.Answers.{laid};
 ghost use Rattle.machine.specs.Machine.{mach, smaller};
-ghost use Rattle.finisher.specs.Finisher.{most, settle_of, name_of, slot_of, test_names_of, test_slots_of, clean_of, finish_of, spell_of, entry_of, type_of, write_names_of, write_slots_of, write_answer_of};
+ghost use Rattle.finisher.specs.Finisher.{settle_of, name_of, slot_of, test_names_of, test_slots_of, clean_of, finish_of, spell_of, entry_of, type_of, write_names_of, write_slots_of, write_answer_of};
 
 use machine::State;
 use types::{Name, NodeRef, Place};
-use unifier::Told;
-use write::Wrote;
+use unifier::Halt;
+use write::WriteError;
 
 // ---- unknowns
 
@@ -31,12 +31,12 @@ fn settle(
     if st.stop != 0 {
         return st;
     }
-    let found = machine::solved(work, size, st.nodes, t, st.budget);
-    match found {
-        Told::Yes(left) => machine::left_with(left, st),
-        Told::No(left) => machine::list(output, problem, place, name, machine::left_with(left, st)),
-        Told::Spent => machine::stopped(7, st),
-        Told::Broken => machine::stopped(2, st),
+    let mut left = st.budget;
+    match machine::solved(work, size, st.nodes, t, &mut left) {
+        Ok(true) => machine::left_with(left, st),
+        Ok(false) => machine::list(output, problem, place, name, machine::left_with(left, st)),
+        Err(Halt::Spent) => machine::stopped(7, st),
+        Err(Halt::Broken) => machine::stopped(2, st),
     }
 }
 
@@ -125,15 +125,23 @@ fn within(size: u32, most: usize) -> usize
     if n < most { n } else { most }
 }
 
-// The arena is lent to the writer, with a budget that every test was within.
-fn lay(work: &[u32], output: &mut [u8], size: u32, count: u32, at: usize, t: NodeRef) -> Wrote
-    ensures { laid result output.new ≡ put (take size work.now) count (output.old, at, t.0) most }
+// The arena is lent to the writer.
+fn lay(
+    work: &[u32],
+    output: &mut [u8],
+    size: u32,
+    count: u32,
+    at: usize,
+    t: NodeRef,
+    left: &mut u64,
+) -> Result<usize, WriteError>
+    ensures { laid result left.new output.new ≡ put (take size work.now) count (output.old, at, t.0) left.old }
 {
     let n = within(size, work.len());
-    write::put(&work[..n], count, output, at, t, 18446744073709551615)
+    write::put(&work[..n], count, output, at, t, left)
 }
 
-// The type at a reference is written after the bytes so far.
+// The type at a reference is written after the bytes so far, with a budget that every test was within.
 fn spell(work: &[u32], output: &mut [u8], size: u32, t: NodeRef, st: State) -> State
     ensures { mach size result work.now output.new ≡ spell_of t.0 (mach size st work.now output.old) }
 {
@@ -143,12 +151,12 @@ fn spell(work: &[u32], output: &mut [u8], size: u32, t: NodeRef, st: State) -> S
     if st.over {
         return st;
     }
-    let wrote = lay(work, output, size, st.nodes, st.bytes, t);
-    match wrote {
-        Wrote::At(end, _) => machine::written(end, st),
-        Wrote::Full => machine::overfull(st),
-        Wrote::Spent => machine::stopped(2, st),
-        Wrote::Broken => machine::stopped(2, st),
+    let mut left = u64::MAX;
+    match lay(work, output, size, st.nodes, st.bytes, t, &mut left) {
+        Ok(end) => machine::written(end, st),
+        Err(WriteError::Full) => machine::overfull(st),
+        Err(WriteError::Spent) => machine::stopped(2, st),
+        Err(WriteError::Broken) => machine::stopped(2, st),
     }
 }
 

@@ -1,6 +1,7 @@
-use Rattle.std.proofs.Common.{◌∙◌, refl, sym, ap}
+use Rattle.std.proofs.Common.{◌≡◌, ℕ, Result, Err, arith, ◌∙◌, refl, sym, ap}
 use Rattle.forms.specs.Forms.{yes_if, no_if, yes_eq, no_eq}
-use Rattle.write.specs.declared.Wrote.{Wrote}
+use Rattle.write.specs.declared.WriteError.{WriteError}
+use Rattle.write.specs.declared.WriteError.TheVariants.{Full, Spent, Broken}
 use Rattle.write.specs.Answers.{laid}
 use Rattle.finisher.specs.Finisher.{spell_of}
 use Rattle.finisher.proofs.Laws.{laid-at, laid_full, laid-spent, laid_broken}
@@ -14,18 +15,24 @@ pub returns-then-st : goal.returns-then-st
 unfolding spell_of
 returns-then-st c = yes_eq _ _ _ _ _ c.if-st-ne0.false (yes_if _ _ _ _ c.if-st.true refl)
 
-pub returns-in-At : goal.returns-in-At
+pub returns-in-Ok : goal.returns-in-Ok
 unfolding spell_of
-returns-in-At c = yes_eq _ _ _ _ _ c.if-st-ne0.false (no_if _ _ _ _ c.if-st.false (laid-at c.args.size c.args.st c.written.result c.args.work.now c.args.output.now c.lay-wrote.new.output _ _ _ (ap (λ (x : Wrote). laid x c.lay-wrote.new.output) (sym c.in-At.is) ∙ c.lay-wrote.ensures) c.written.ensures))
+returns-in-Ok c = yes_eq _ _ _ _ _ c.if-st-ne0.false (no_if _ _ _ _ c.if-st.false (laid-at c.args.size c.args.st c.written.result c.args.work.now c.args.output.now c.lay.new.output _ _ _ c.in-Ok.ensures c.written.ensures))
 
-pub returns-in-Full : goal.returns-in-Full
+pub returns-in-Err-Full : goal.returns-in-Err-Full
 unfolding spell_of
-returns-in-Full c = yes_eq _ _ _ _ _ c.if-st-ne0.false (no_if _ _ _ _ c.if-st.false (laid_full c.args.size c.args.st c.overfull.result c.args.work.now c.args.output.now c.lay-wrote.new.output _ (ap (λ (x : Wrote). laid x c.lay-wrote.new.output) (sym c.in-Full.is) ∙ c.lay-wrote.ensures) c.overfull.ensures))
+returns-in-Err-Full c =
+    let e : c.lay.result ≡ Err Full = grind arith in
+    yes_eq _ _ _ _ _ c.if-st-ne0.false (no_if _ _ _ _ c.if-st.false (laid_full c.args.size c.args.st c.overfull.result c.args.work.now c.args.output.now c.lay.new.output c.lay.new.left _ (ap (λ (x : Result ℕ WriteError). laid x c.lay.new.left c.lay.new.output) (sym e) ∙ c.lay.ensures) c.overfull.ensures))
 
-pub returns-in-Spent : goal.returns-in-Spent
+pub returns-in-Err-Spent : goal.returns-in-Err-Spent
 unfolding spell_of
-returns-in-Spent c = yes_eq _ _ _ _ _ c.if-st-ne0.false (no_if _ _ _ _ c.if-st.false (laid-spent c.args.size c.args.st c.stopped.result c.args.work.now c.args.output.now c.lay-wrote.new.output _ (ap (λ (x : Wrote). laid x c.lay-wrote.new.output) (sym c.in-Spent.is) ∙ c.lay-wrote.ensures) c.stopped.ensures))
+returns-in-Err-Spent c =
+    let e : c.lay.result ≡ Err Spent = grind arith in
+    yes_eq _ _ _ _ _ c.if-st-ne0.false (no_if _ _ _ _ c.if-st.false (laid-spent c.args.size c.args.st c.stopped.result c.args.work.now c.args.output.now c.lay.new.output c.lay.new.left _ (ap (λ (x : Result ℕ WriteError). laid x c.lay.new.left c.lay.new.output) (sym e) ∙ c.lay.ensures) c.stopped.ensures))
 
-pub returns-in-Broken : goal.returns-in-Broken
+pub returns-in-Err-Broken : goal.returns-in-Err-Broken
 unfolding spell_of
-returns-in-Broken c = yes_eq _ _ _ _ _ c.if-st-ne0.false (no_if _ _ _ _ c.if-st.false (laid_broken c.args.size c.args.st c.stopped-in-Broken.result c.args.work.now c.args.output.now c.lay-wrote.new.output _ (ap (λ (x : Wrote). laid x c.lay-wrote.new.output) (sym c.in-Broken.is) ∙ c.lay-wrote.ensures) c.stopped-in-Broken.ensures))
+returns-in-Err-Broken c =
+    let e : c.lay.result ≡ Err Broken = grind arith in
+    yes_eq _ _ _ _ _ c.if-st-ne0.false (no_if _ _ _ _ c.if-st.false (laid_broken c.args.size c.args.st c.stopped-in-Err-Broken.result c.args.work.now c.args.output.now c.lay.new.output c.lay.new.left _ (ap (λ (x : Result ℕ WriteError). laid x c.lay.new.left c.lay.new.output) (sym e) ∙ c.lay.ensures) c.stopped-in-Err-Broken.ensures))
