@@ -35,7 +35,7 @@ fn settle(
 }
 
 // Entry j of the names met.
-#[tactic(auto, using(machine::specs::Seen::still, machine::specs::Still::tests, crate::proofs::Laws::still), unfolding(crate::specs::Finisher::name_of, forms::specs::Forms::then))]
+#[tactic(auto, using(machine::specs::Seen::still, machine::specs::Still::tests, crate::specs::Still::still), unfolding(crate::specs::Finisher::name_of, forms::specs::Forms::then))]
 fn name(walk: &mut Machine, j: u32) -> Result<(), Stop>
     ensures value { walked result walk.new ≡ name_of j (machine walk.old) }
     ensures kept { Kept walk.old walk.new }
@@ -53,7 +53,7 @@ fn name(walk: &mut Machine, j: u32) -> Result<(), Stop>
 }
 
 // Slot j.
-#[tactic(auto, using(machine::specs::Seen::still, machine::specs::Still::tests, crate::proofs::Laws::still), unfolding(crate::specs::Finisher::slot_of, forms::specs::Forms::then))]
+#[tactic(auto, using(machine::specs::Seen::still, machine::specs::Still::tests, crate::specs::Still::still), unfolding(crate::specs::Finisher::slot_of, forms::specs::Forms::then))]
 fn slot(walk: &mut Machine, j: u32) -> Result<(), Stop>
     ensures value { walked result walk.new ≡ slot_of j (machine walk.old) }
     ensures kept { Kept walk.old walk.new }
@@ -64,7 +64,7 @@ fn slot(walk: &mut Machine, j: u32) -> Result<(), Stop>
 }
 
 // The names met, in order.
-#[tactic(auto, using(machine::specs::Seen::still, machine::specs::Still::tests, crate::proofs::Laws::still, crate::proofs::Laws::turns), unfolding(crate::specs::Finisher::test_names_of, forms::specs::Forms::then))]
+#[tactic(auto, using(machine::specs::Seen::still, machine::specs::Still::tests, crate::specs::Still::still, crate::proofs::Laws::turns), unfolding(crate::specs::Finisher::test_names_of, forms::specs::Forms::then))]
 fn test_names(walk: &mut Machine) -> Result<(), Stop>
     ensures value { walked result walk.new ≡ test_names_of (machine walk.old) }
     ensures kept { Kept walk.old walk.new }
@@ -76,7 +76,7 @@ fn test_names(walk: &mut Machine) -> Result<(), Stop>
 }
 
 // The slots, in order.
-#[tactic(auto, using(machine::specs::Seen::still, machine::specs::Still::tests, crate::proofs::Laws::still, crate::proofs::Laws::turns), unfolding(crate::specs::Finisher::test_slots_of, forms::specs::Forms::then))]
+#[tactic(auto, using(machine::specs::Seen::still, machine::specs::Still::tests, crate::specs::Still::still, crate::proofs::Laws::turns), unfolding(crate::specs::Finisher::test_slots_of, forms::specs::Forms::then))]
 fn test_slots(walk: &mut Machine) -> Result<(), Stop>
     ensures value { walked result walk.new ≡ test_slots_of (machine walk.old) }
     ensures kept { Kept walk.old walk.new }
@@ -88,7 +88,7 @@ fn test_slots(walk: &mut Machine) -> Result<(), Stop>
 }
 
 // Whether nothing is listed.
-#[tactic(auto, using(machine::specs::Seen::still, machine::specs::Still::tests, crate::proofs::Laws::still), unfolding(crate::specs::Finisher::clean_of, forms::specs::Forms::then))]
+#[tactic(auto, using(machine::specs::Seen::still, machine::specs::Still::tests, crate::specs::Still::still), unfolding(crate::specs::Finisher::clean_of, forms::specs::Forms::then))]
 fn clean(walk: &Machine) -> bool
     ensures { result ≡ clean_of (machine walk.now).st }
 {
@@ -96,7 +96,7 @@ fn clean(walk: &Machine) -> bool
 }
 
 // Names are tested; then slots, where nothing is listed.
-#[tactic(auto, using(machine::specs::Seen::still, machine::specs::Still::tests, crate::proofs::Laws::still), unfolding(crate::specs::Finisher::finish_of, forms::specs::Forms::then))]
+#[tactic(auto, using(machine::specs::Seen::still, machine::specs::Still::tests, crate::specs::Still::still), unfolding(crate::specs::Finisher::finish_of, forms::specs::Forms::then))]
 pub fn finish(walk: &mut Machine) -> Result<(), Stop>
     ensures value { walked result walk.new ≡ finish_of (machine walk.old) }
     ensures kept { Kept walk.old walk.new }
@@ -148,7 +148,7 @@ fn spell(walk: &mut Machine, t: NodeRef) -> Result<(), Stop>
 }
 
 // 50: name j and its type.
-#[tactic(auto, using(machine::specs::Seen::still, machine::specs::Still::tests, crate::proofs::Laws::still), unfolding(crate::specs::Finisher::entry_of, forms::specs::Forms::then))]
+#[tactic(auto, using(machine::specs::Seen::still, machine::specs::Still::tests, crate::specs::Still::still), unfolding(crate::specs::Finisher::entry_of, forms::specs::Forms::then))]
 fn entry(walk: &mut Machine, j: u32) -> Result<(), Stop>
     ensures value { walked result walk.new ≡ entry_of j (machine walk.old) }
     ensures kept { Kept walk.old walk.new }
@@ -161,7 +161,7 @@ fn entry(walk: &mut Machine, j: u32) -> Result<(), Stop>
 }
 
 // 51: the place of slot j and its type.
-#[tactic(auto, using(machine::specs::Seen::still, machine::specs::Still::tests, crate::proofs::Laws::still), unfolding(crate::specs::Finisher::type_of, forms::specs::Forms::then))]
+#[tactic(auto, using(machine::specs::Seen::still, machine::specs::Still::tests, crate::specs::Still::still), unfolding(crate::specs::Finisher::type_of, forms::specs::Forms::then))]
 fn slot_type(walk: &mut Machine, j: u32) -> Result<(), Stop>
     ensures value { walked result walk.new ≡ type_of j (machine walk.old) }
     ensures kept { Kept walk.old walk.new }
@@ -173,7 +173,7 @@ fn slot_type(walk: &mut Machine, j: u32) -> Result<(), Stop>
     spell(walk, NodeRef(t))
 }
 
-#[tactic(auto, using(machine::specs::Seen::still, machine::specs::Still::tests, crate::proofs::Laws::still, crate::proofs::Laws::turns), unfolding(crate::specs::Finisher::write_names_of, forms::specs::Forms::then))]
+#[tactic(auto, using(machine::specs::Seen::still, machine::specs::Still::tests, crate::specs::Still::still, crate::proofs::Laws::turns), unfolding(crate::specs::Finisher::write_names_of, forms::specs::Forms::then))]
 fn write_names(walk: &mut Machine) -> Result<(), Stop>
     ensures value { walked result walk.new ≡ write_names_of (machine walk.old) }
     ensures kept { Kept walk.old walk.new }
@@ -184,7 +184,7 @@ fn write_names(walk: &mut Machine) -> Result<(), Stop>
     Ok(())
 }
 
-#[tactic(auto, using(machine::specs::Seen::still, machine::specs::Still::tests, crate::proofs::Laws::still, crate::proofs::Laws::turns), unfolding(crate::specs::Finisher::write_slots_of, forms::specs::Forms::then))]
+#[tactic(auto, using(machine::specs::Seen::still, machine::specs::Still::tests, crate::specs::Still::still, crate::proofs::Laws::turns), unfolding(crate::specs::Finisher::write_slots_of, forms::specs::Forms::then))]
 fn write_slots(walk: &mut Machine) -> Result<(), Stop>
     ensures value { walked result walk.new ≡ write_slots_of (machine walk.old) }
     ensures kept { Kept walk.old walk.new }
@@ -196,7 +196,7 @@ fn write_slots(walk: &mut Machine) -> Result<(), Stop>
 }
 
 // The types of names and slots are written, after the bytes so far.
-#[tactic(auto, using(machine::specs::Seen::still, machine::specs::Still::tests, crate::proofs::Laws::still), unfolding(crate::specs::Finisher::write_answer_of, forms::specs::Forms::then))]
+#[tactic(auto, using(machine::specs::Seen::still, machine::specs::Still::tests, crate::specs::Still::still), unfolding(crate::specs::Finisher::write_answer_of, forms::specs::Forms::then))]
 pub fn write_answer(walk: &mut Machine) -> Result<(), Stop>
     ensures value { walked result walk.new ≡ write_answer_of (machine walk.old) }
     ensures kept { Kept walk.old walk.new }

@@ -4,7 +4,6 @@ use Rattle.machine.specs.Machine.{Mach, cell, put_of}
 use Rattle.runner.specs.Begin.{entered_from}
 use Rattle.memory.specs.Memory.{cleared}
 use Rattle.runner.specs.Answers.{Answer, told, called}
-use Rattle.runner.specs.Run.{judged}
 
 -- the environment's types: one more, and none left
 pub entered_more : (types : List ℕ) (x : ℕ) (m : Mach) → x < 256 → entered_from types x (256 - x) m ≡ entered_from types (x + 1) (256 - (x + 1)) (put_of (cell 3392 1 x 0) (get_or types x 0) m)
@@ -15,9 +14,7 @@ pub entered_end : (types : List ℕ) (x : ℕ) (m : Mach) → 256 ≤ x → ente
 unfolding entered_from
 entered_end types x m l = let e : 256 - x ≡ 0 = omega arith in ap (λ (k : ℕ). entered_from types x k m) e
 
--- an answer that is another
-pub same-judged : (a a' : Answer) (out : List ℕ) → a ≡ a' → judged a out ≡ judged a' out
-same-judged a a' out e = ap (λ (x : Answer). judged x out) e
+pub ruleset turns = (entered_more, entered_end)
 
 -- what is left behind
 pub closes : (a : Answer) (n : ℕ) (out out' work work' : List ℕ) → n ≡ (told a).size → out' ≡ cleared n out → work' ≡ cleared 0 work → called a out' work' ≡ called a (cleared (told a).size out) (cleared 0 work)

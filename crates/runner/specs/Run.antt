@@ -5,12 +5,14 @@ use Rattle.types.specs.declared.Place.{Place}
 use Rattle.types.specs.declared.Fault.{Fault}
 use Rattle.types.specs.declared.Fault.TheVariants as F
 use Rattle.machine.specs.State.{State}
+use Rattle.machine.specs.declared.Stop.{Stop}
+use Rattle.machine.specs.declared.Stop.TheVariants as St
 use Rattle.forms.specs.Forms.{test, then}
-use Rattle.machine.specs.Machine.{Mach, mach}
+use Rattle.machine.specs.Machine.{Mach, mach, start_of}
 use Rattle.memory.specs.Memory.{cleared}
 use Rattle.walker.specs.Root.{formula_of}
 use Rattle.finisher.specs.Finisher.{finish_of, write_answer_of}
-use Rattle.runner.specs.Begin.{start_of, entered_of}
+use Rattle.runner.specs.Begin.{entered_of}
 use Rattle.runner.specs.declared.Verdict.{Verdict}
 use Rattle.runner.specs.declared.Verdict.TheVariants.{Typed, Problems}
 use Rattle.runner.specs.declared.Input.{Input}
@@ -33,6 +35,12 @@ verdict_of verdict budget v =
     (λ _. test (eqb v.stop 0)
     (λ _. test v.over (λ _. Err NoRoom) (λ _. Ok (record { verdict = verdict; length = v.bytes; steps = budget - v.budget })))
     (λ _. Err Oversized)))
+
+-- what a walk that stops is refused with
+abbrev pub refused_by : Stop → Refusal
+refused_by St.Full = Full
+refused_by St.Spent = Spent
+refused_by St.Broken = Oversized
 
 -- an answer, and the output then
 pub record Judged : Type 0 where

@@ -3,15 +3,14 @@
 
 ghost use Rattle.std.specs.Prelude.{◌≡◌, List, ℕ, ◌+◌, ◌*◌, ◌-◌, ◌<◌, ◌≤◌, length};
 ghost use Rattle.inference.specs.Infer.{sized};
-ghost use Rattle.machine.specs.Machine.{mach};
-ghost use Rattle.machine.specs.State as S;
+ghost use Rattle.machine.specs.Seen.{machine, Kept};
 ghost use Rattle.memory.specs.Memory.{cleared};
 ghost use Rattle.runner.specs.Answers.{told, called};
-ghost use Rattle.runner.specs.Begin.{start_of, entered_of};
-ghost use Rattle.runner.specs.Run.{verdict_of, judged, judge_of, fault_of};
+ghost use Rattle.runner.specs.Begin.{entered_of};
+ghost use Rattle.runner.specs.Run.{verdict_of, judged, judge_of, refused_by, fault_of};
 
-use machine::State;
-use types::{Fault, NodeRef, Place};
+use machine::{Machine, Stop};
+use types::{Fault, Place};
 
 // Whether a formula's types were found.
 #[derive(Clone, Copy, PartialEq, Eq)]
@@ -56,6 +55,19 @@ pub enum Input {
     Formula,
 }
 
+// A walk that stops has no outcome: 6, 7, or 2 for what cannot happen once the form is tested.
+impl From<Stop> for Refusal {
+    ghost from_gives = { λ stop refusal. refusal ≡ refused_by stop };
+
+    fn from(stop: Stop) -> Refusal {
+        match stop {
+            Stop::Full => Refusal::Full,
+            Stop::Spent => Refusal::Spent,
+            Stop::Broken => Refusal::Oversized,
+        }
+    }
+}
+
 // What inference answers.
 pub type Answer = Result<Outcome, Refusal>;
 
@@ -75,70 +87,45 @@ pub fn fits(formula: usize, environment: usize, names: u32, capacity: u32, work:
 
 // ---- the walk and the finish
 
-// The state that a walk begins with.
-#[tactic(auto, unfolding(crate::specs::Begin::start_of))]
-pub fn start(budget: u64) -> State
-    ensures { result ≡ start_of budget }
-{
-    State {
-        at: Place(0),
-        from: Place(0),
-        last: NodeRef(0),
-        nodes: 0,
-        budget,
-        slots: 0,
-        met: 0,
-        bound: 0,
-        bytes: 0,
-        over: false,
-        stop: 0,
-    }
-}
-
 // The environment's types, by name, into the book.
-pub fn enter_types(work: &mut [u32], size: u32, types: &[u32; 256])
-    ensures { (st : S.State) (out : List ℕ) → mach size st work.new out ≡ entered_of types.now (mach size st work.old out) }
+#[tactic(auto, using(crate::proofs::Laws::turns))]
+pub fn enter_types(walk: &mut Machine, types: &[u32; 256])
+    ensures value { machine walk.new ≡ entered_of types.now (machine walk.old) }
+    ensures kept { Kept walk.old walk.new }
 {
     for x in 0..types::MAX_NAMES {
-        machine::put(work, size, machine::ENTRIES, 1, x, 0, types[x as usize]);
+        walk.put(machine::ENTRIES, x, 0, types[x as usize]);
     }
 }
 
 // ---- the answer
 
-// The answer of a walk that stopped or found no room, or whose bytes stand in the output.
-#[tactic(auto, using(forms::specs::Forms::yes_eq, forms::specs::Forms::no_eq, forms::specs::Forms::yes_if, forms::specs::Forms::no_if), unfolding(crate::specs::Run::verdict_of))]
-fn conclude(verdict: Verdict, budget: u64, st: State) -> Answer
-    ensures { result ≡ verdict_of verdict budget st }
+// The answer of a walk that found no room, or whose bytes stand in the output.
+#[tactic(auto, using(machine::specs::Still::tests), unfolding(crate::specs::Run::verdict_of))]
+fn conclude(verdict: Verdict, budget: u64, walk: &Machine) -> Answer
+    ensures { result ≡ verdict_of verdict budget (machine walk.now).st }
 {
-    if st.stop == 6 {
-        return Err(Refusal::Full);
-    }
-    if st.stop == 7 {
-        return Err(Refusal::Spent);
-    }
-    if st.stop != 0 {
-        return Err(Refusal::Oversized);
-    }
-    if st.over {
+    if walk.over {
         return Err(Refusal::NoRoom);
     }
     Ok(Outcome {
         verdict,
-        length: st.bytes,
-        steps: budget.saturating_sub(st.budget),
+        length: walk.bytes,
+        steps: budget.saturating_sub(walk.budget),
     })
 }
 
-// After the tests: problems, a stop or no room as they stand; else the typing's entries are written.
-pub fn judge(work: &[u32], output: &mut [u8], size: u32, budget: u64, st: State) -> Answer
-    ensures { judged result output.new ≡ judge_of budget (mach size st work.now output.old) }
+// After the tests: problems or no room as they stand; else the typing's entries are written.
+#[tactic(auto, using(machine::specs::Still::tests, crate::specs::Stops::verdict_stops), unfolding(crate::specs::Run::judge_of, forms::specs::Forms::then))]
+pub fn judge(walk: &mut Machine, budget: u64) -> Answer
+    ensures value { judged result walk.new.output.now ≡ judge_of budget (machine walk.old) }
+    ensures kept { Kept walk.old walk.new }
 {
-    if st.stop != 0 || st.over || st.bytes != 0 {
-        return conclude(Verdict::Problems, budget, st);
+    if walk.over || walk.bytes != 0 {
+        return conclude(Verdict::Problems, budget, walk);
     }
-    let written = finisher::write_answer(work, output, size, st);
-    conclude(Verdict::Typed, budget, written)
+    finisher::write_answer(walk)?;
+    conclude(Verdict::Typed, budget, walk)
 }
 
 // ---- what is left behind
