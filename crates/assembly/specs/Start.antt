@@ -16,7 +16,8 @@ use Rattle.simulation.specs.Whole.{Fresh}
 use Rattle.machine.specs.State.{State}
 use Rattle.machine.specs.Machine.{Mach, mach, cell, put_of}
 use Rattle.memory.specs.Memory.{cleared}
-use Rattle.runner.specs.Begin.{start_of, entered_from, entered_of}
+use Rattle.runner.specs.Begin.{entered_from, entered_of}
+use Rattle.machine.specs.Machine.{start_of}
 
 -- ---- what entering the types does to the book
 entered_state : (types : List ℕ) (x k : ℕ) (m : Mach) → (entered_from types x k m).st ≡ m.st

@@ -1,6 +1,7 @@
 -- Laws that the proofs of the machine's steps cite: the arena lent as the first words of the work slice, what the unifier's answers do, and the
 -- recursive readers at a number of levels.
-use Rattle.std.proofs.Common.{ℕ, zero, suc, ◌+◌, ◌-◌, ◌*◌, ◌≤◌, ◌<◌, sym, arith, sub-one, length-take-le, List, [], ◌∷◌, ◌++◌, lt-ltb, le-ltb, ◌≡◌, ap, ap₂, ◌∙◌, refl, eqb, length, take, drop, set, mul-le-mul_right, le_of_lt, drop_of_length-le}
+use Rattle.std.proofs.Common.{ℕ, zero, suc, ◌+◌, ◌-◌, ◌*◌, ◌≤◌, ◌<◌, sym, arith, sub-one, length-take-le, List, [], ◌∷◌, ◌++◌, ◌≡◌, ap, ap₂, ◌∙◌, refl, eqb, length, take, drop, set, mul-le-mul_right, le_of_lt, drop_of_length-le}
+use Prim.Native.Nat.{min}
 use Rattle.std.proofs.Math.Decide.{dec_lt}
 use Rattle.std.proofs.Math.Seq.{take_all, take_at, drop_at, set_out}
 use Rattle.std.proofs.lemmas.List.{take-set-le, drop-set-add, drop_more}
@@ -31,7 +32,7 @@ use Rattle.machine.specs.Seen.{machine, made_of, unmade, halted, stop_number}
 use Rattle.machine.specs.declared.Machine.{Machine}
 use Rattle.machine.specs.Types.{atom_of, type_head, skip_by, skip_of, lift_by, lift_of, notes_by, notes_of, times_of}
 use Rattle.machine.specs.Scripts.{item_of, items_of}
-use Rattle.machine.specs.Machine.{Mach, mach, whole, with_st, on_st, expect_of, smaller, stopped_of, grown_of, left_of, grown_by, settled_by, judged_by, list_of, put_of, make_of}
+use Rattle.machine.specs.Machine.{Mach, mach, whole, with_st, on_st, expect_of, stopped_of, grown_of, left_of, grown_by, settled_by, judged_by, list_of, put_of, make_of}
 
 -- ---- numbers
 pub product : (a b : ℕ) → a < 4294967296 → b < 256 → a * b < 1099511627776
@@ -50,14 +51,6 @@ pub record Lent (size n : ℕ) (w last : List ℕ) : Type 0 where
   pub front : take size (last ++ drop n w) ≡ last
   pub behind : drop size (last ++ drop n w) ≡ drop size w
 
-smaller_less : (a b : ℕ) → a < b → smaller a b ≡ a
-unfolding smaller test
-smaller_less a b l = rw (lt-ltb a b l) refl
-
-smaller-rest : (a b : ℕ) → b ≤ a → smaller a b ≡ b
-unfolding smaller test
-smaller-rest a b l = rw (le-ltb a b l) refl
-
 lent_less : (size : ℕ) (w last : List ℕ) → size < length w → length last ≡ length (take size w) → Lent size size w last
 lent_less size w last l e =
     let k : length last ≡ size = e ∙ length-take-le size w (le_of_lt l) in
@@ -74,16 +67,16 @@ lent-whole size w last l e =
       behind = ap (drop size) f ∙ drop_of_length-le last {i = size} (omega (arith, k, l)) ∙ sym (drop_of_length-le w {i = size} l);
     }
 
-lent_by : (size n : ℕ) (w last : List ℕ) → Dec (size < length w) → n ≡ smaller size (length w) → length last ≡ length (take n w) → Lent size n w last
+lent_by : (size n : ℕ) (w last : List ℕ) → Dec (size < length w) → n ≡ min (length w) size → length last ≡ length (take n w) → Lent size n w last
 lent_by size n w last (yes l) e h =
-    let k : n ≡ size = e ∙ smaller_less size (length w) l in
+    let k : n ≡ size = omega arith in
     rw k (lent_less size w last l (rw (sym k) h))
 lent_by size n w last (no l) e h =
     let g : length w ≤ size = omega arith in
-    let k : n ≡ length w = e ∙ smaller-rest size (length w) g in
+    let k : n ≡ length w = omega arith in
     rw k (lent-whole size w last g (rw (sym k) h))
 
-pub lent : (size n : ℕ) (w last : List ℕ) → n ≡ smaller size (length w) → length last ≡ length (take n w) → Lent size n w last
+pub lent : (size n : ℕ) (w last : List ℕ) → n ≡ min (length w) size → length last ≡ length (take n w) → Lent size n w last
 lent size n w last e h = lent_by size n w last (dec_lt size (length w)) e h
 
 pub lent_push : (r : Result NodeRef MakeError) (size n count : ℕ) (w last : List ℕ) (d : A.Node) → Lent size n w last → made r last ≡ build (take n w) count d

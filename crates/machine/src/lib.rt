@@ -9,7 +9,7 @@ ghost use Rattle.unification.specs.Make.{build};
 ghost use Rattle.unification.specs.Nodes.{node_is};
 ghost use Rattle.makers.specs.Answers.{made};
 ghost use Rattle.unifier.specs.Answers.{settled, told};
-ghost use Rattle.machine.specs.Machine.{mach, on_st, smaller, start_of, placed_of, passed_of, gave_of, bound_of, paid_of, enter_of, grown_of, cell, word_of, put_of, emit_of, two_of, four_of, list_of, make_of, expect_of, leave_of, remember_of, enrol_of, push_bound_of};
+ghost use Rattle.machine.specs.Machine.{on_st, start_of, placed_of, passed_of, gave_of, bound_of, paid_of, enter_of, grown_of, cell, word_of, put_of, emit_of, two_of, four_of, list_of, make_of, expect_of, leave_of, remember_of, enrol_of, push_bound_of};
 ghost use Rattle.machine.specs.Types.{skip_of, atom_of, lift_of, free_of, bound_identifier_of, note_of, noted_of, notes_of, meets_of, spelled_of, ascription_of, claim_of, declaration_by, declaration_of, declare_of};
 ghost use Rattle.machine.specs.Scripts.{chosen_of, place_of, item_of, play_of, parts_of};
 ghost use Rattle.machine.specs.Seen.{machine, walked, unmade, halted, made_of, problem_number, name_number, Kept};
@@ -159,26 +159,19 @@ fn name_word(name: Option<Name>) -> u32
 
 // ---- the arena: the first `size` words of the work slice are lent to the unifier, in functions that do nothing else
 
-fn within(size: u32, most: usize) -> usize
-    ensures value { result ≡ smaller size most }
-    ensures upper_bound { result ≤ most }
-{
-    let n = size as usize;
-    if n < most { n } else { most }
-}
-
 // The arena, to read.
 pub fn arena(work: &[u32], size: u32) -> &[u32]
     ensures { result.now ≡ take size work.now }
 {
-    &work[..within(size, work.len())]
+    let n = work.len().min(size as usize);
+    &work[..n]
 }
 
 fn push(work: &mut [u32], size: u32, count: u32, node: Node) -> Result<NodeRef, MakeError>
     ensures work_after { made result (take size work.new) ≡ build (take size work.old) count (node_is node) }
     ensures work_unchanged { drop size work.new ≡ drop size work.old }
 {
-    let n = within(size, work.len());
+    let n = work.len().min(size as usize);
     makers::make(&mut work[..n], count, node)
 }
 
@@ -193,7 +186,7 @@ fn unified(
     ensures work_after { settled result left.new (take size work.new) ≡ unify count (take size work.old, a.0, b.0) left.old }
     ensures work_unchanged { drop size work.new ≡ drop size work.old }
 {
-    let n = within(size, work.len());
+    let n = work.len().min(size as usize);
     unifier::unify(&mut work[..n], count, a, b, left)
 }
 
@@ -208,11 +201,13 @@ impl<'a, 'b> Machine<'a, 'b> {
         work: &'a mut [u32],
         output: &'b mut [u8],
     ) -> Machine<'a, 'b>
-        ensures value { machine result ≡ mach size (start_of budget) work.old output.old }
+        ensures state { (machine result).st ≡ start_of budget }
         ensures formula { result.formula.now ≡ formula.now }
         ensures environment { result.environment.now ≡ environment.now }
         ensures size { result.size ≡ size }
+        ensures words { result.work.now ≡ work.old }
         ensures work { result.work.ghost_name ≡ work.entry.ghost_name }
+        ensures bytes { result.output.now ≡ output.old }
         ensures output { result.output.ghost_name ≡ output.entry.ghost_name }
     {
         Machine {

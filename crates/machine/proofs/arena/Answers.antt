@@ -3,4 +3,4 @@ use Rattle.machine.proofs.Laws.{lent}
 use Rattle.machine.proofs.arena.Goals as goal
 
 pub returns : goal.returns
-returns c = (lent c.args.size c.within.result c.args.work.now (take c.within.result c.args.work.now) c.within.ensures.value refl).part
+returns c = (lent c.args.size c.min-n.result c.args.work.now (take c.min-n.result c.args.work.now) c.min-n.ensures refl).part
