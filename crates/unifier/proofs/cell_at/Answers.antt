@@ -20,10 +20,6 @@ pub returns-in-78 : goal.returns-in-78
 unfolding cell_is stem_is
 returns-in-78 c = sym (node-here _ _ _ c.if-count-t.false c.if-words-at.false)
 
-pub returns-in-64-to-68 : goal.returns-in-64-to-68
-unfolding cell_is stem_is
-returns-in-64-to-68 c = sym (node-here _ _ _ c.if-count-t.false c.if-words-at.false)
-
 pub returns-in_default : goal.returns-in_default
 unfolding cell_is
 returns-in_default c = sym (node-here _ _ _ c.if-count-t.false c.if-words-at.false ∙ bad-below _ _ _ c.in_default.in_default-own.rest.0.1 c.in_default.in_default-own.rest.1 c.in_default.if-kind-lt64-own.true)
