@@ -1,4 +1,5 @@
 -- The code's nodes: how one is read as a node of the arena. It is no binding, and not broken.
+use Rattle.std.proofs.Math.Path.{refl}
 use Rattle.types.specs.declared.Node.{Node}
 use Rattle.types.specs.declared.Node.TheVariants as N
 use Rattle.types.specs.Code.{atom_is}
@@ -16,3 +17,12 @@ node-root N.Unknown = tt
 node-root (N.Leaf a) = tt
 node-root (N.Power x) = tt
 node-root (N.Product x y) = tt
+
+-- that a node is no binding is one fact: it can stand in a type
+pub root_prop : (n : S.Node) → IsProp (Root n)
+root_prop S.free = λ x y. refl
+root_prop (S.link j) = λ x y. absurd x
+root_prop (S.leaf a) = λ x y. refl
+root_prop (S.power x) = λ x y. refl
+root_prop (S.pair x y) = λ x y. refl
+root_prop S.bad = λ x y. absurd x

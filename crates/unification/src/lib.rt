@@ -2,9 +2,13 @@
 #![tactic(auto)]
 
 pub const BOOL: u32 = 0x40;
+
 pub const INTEGER: u32 = 0x41;
+
 pub const GIVEN: u32 = 0x42;
+
 pub const POWER: u32 = 0x43;
+
 pub const PRODUCT: u32 = 0x44;
 // an unknown bound to a node
 pub const BOUND: u32 = 0x4D;

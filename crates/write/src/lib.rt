@@ -43,7 +43,9 @@ pub fn put(
     if page.len() <= at {
         return Err(WriteError::Full);
     }
-    match unifier::visit(words, count, t, left)?.node {
+    let reached = unifier::visit(words, count, t, *left)?;
+    *left = reached.left;
+    match reached.node.node() {
         Node::Unknown => Err(WriteError::Broken),
         Node::Leaf(Atom::Bool) => {
             page[at] = 0x40;

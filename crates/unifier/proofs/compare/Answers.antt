@@ -1,49 +1,48 @@
-use Rattle.std.proofs.Common.{refl, rules}
-use Rattle.unification.specs.Arena.{meet}
+use Rattle.unification.specs.Code.{task_right, task_plain}
+use Rattle.std.proofs.Common.{inl, inr, sym, eq-eqb, ne_eqb}
+use Rattle.unification.specs.Kinds.{no_seventh}
+use Rattle.unification.specs.Arena.{meet, same_atom, verdict_of}
+use Rattle.unification.specs.Kinds.{meet-differ}
 use Rattle.unification.specs.Tasks.{task_of}
-use Rattle.unifier.proofs.Laws.{meet-same, meet-differ, meet-leaf, meet-power, meet-product}
+use Rattle.unifier.specs.Answers.{stem_is}
 use Rattle.unifier.proofs.compare.Goals as goal
 
-pub returns-in-Unknown : goal.returns-in-Unknown
-unfolding meet task_of
-returns-in-Unknown c = rw c.in-Unknown.is refl
+pub returns-then-x-eq-UNKNOWN : goal.returns-then-x-eq-UNKNOWN
+unfolding task_of meet stem_is same_atom verdict_of
+returns-then-x-eq-UNKNOWN c = rw c.if-x-eq-UNKNOWN.true
 
-pub returns-in-Unknown-y : goal.returns-in-Unknown-y
-unfolding meet task_of
-returns-in-Unknown-y c = rw (c.in-Leaf.is, c.in-Unknown-y.is) refl
+pub returns-then-y-eq-UNKNOWN : goal.returns-then-y-eq-UNKNOWN
+unfolding stem_is
+returns-then-y-eq-UNKNOWN c = sym (task_right _ _ _ _ _ _ _ _ c.args.x.is_root c.if-x-eq-UNKNOWN.false c.if-y-eq-UNKNOWN.true)
 
-pub returns-in-Unknown-y-2 : goal.returns-in-Unknown-y-2
-unfolding meet task_of
-returns-in-Unknown-y-2 c = rw (c.in-Power.is, c.in-Unknown-y-2.is) refl
+pub returns-then-x-y : goal.returns-then-x-y
+unfolding task_of stem_is
+returns-then-x-y c = rw (meet-differ _ _ _ _ _ _ c.if-x-eq-UNKNOWN.false c.if-y-eq-UNKNOWN.false c.if-x-y.true)
 
-pub returns-in-Unknown-y-3 : goal.returns-in-Unknown-y-3
-unfolding meet task_of
-returns-in-Unknown-y-3 c = rw (c.in-Product.is, c.in-Unknown-y-3.is) refl
+pub returns-then-x-y-2 : goal.returns-then-x-y-2
+unfolding task_of meet stem_is same_atom verdict_of
+returns-then-x-y-2 c = rw (sym c.if-x-y.false, c.in-66.is, eq-eqb _ _ c.if-x-y-2.true)
 
-pub returns-in-Power-y : goal.returns-in-Power-y
-unfolding meet task_of
-returns-in-Power-y c = rw (c.in-Power.is, c.in-Power-y.is) refl
+pub returns-else-x-y-2 : goal.returns-else-x-y-2
+unfolding task_of meet stem_is same_atom verdict_of
+returns-else-x-y-2 c = rw (sym c.if-x-y.false, c.in-66.is, ne_eqb _ _ c.if-x-y-2.false)
 
-pub returns-in-Product-y : goal.returns-in-Product-y
-unfolding meet task_of
-returns-in-Product-y c = rw (c.in-Product.is, c.in-Product-y.is) refl
+pub returns-in-67 : goal.returns-in-67
+unfolding task_of meet stem_is same_atom verdict_of
+returns-in-67 c = rw (sym c.if-x-y.false, c.in-67.is)
 
-pub returns-then-eq : goal.returns-then-eq
-unfolding task_of
-returns-then-eq c = rw (c.in-Leaf.is, c.in-Leaf-y.is, meet-same c.in-Leaf.p c.in-Leaf-y.q (search rules)) refl
+pub returns-in-68 : goal.returns-in-68
+unfolding task_of meet stem_is same_atom verdict_of
+returns-in-68 c = rw (sym c.if-x-y.false, c.in-68.is)
 
-pub returns-else-eq : goal.returns-else-eq
-unfolding task_of
-returns-else-eq c = rw (c.in-Leaf.is, c.in-Leaf-y.is, meet-differ c.in-Leaf.p c.in-Leaf-y.q (search rules)) refl
+pub returns-in-64-to-65 : goal.returns-in-64-to-65
+unfolding stem_is
+returns-in-64-to-65 c = sym (task_plain _ _ _ _ _ _ _ _ c.in-64-to-65.if-kind-lt64-own.false c.in-64-to-65.if-kind-lt66-own.true c.if-x-y.false)
 
 pub returns-in_default : goal.returns-in_default
-unfolding task_of
-returns-in_default c = rw (c.in-Leaf.is, meet-leaf c.in-Leaf.p c.args.y c.in_default.not-Unknown c.in_default.not-Leaf) refl
+unfolding stem_is
+returns-in_default c = absurd (no_seventh _ _ _ c.args.x.is_root c.if-x-eq-UNKNOWN.false c.in_default.in_default-own.rest.0.0.1 c.in_default.in_default-own.rest.0.1 c.in_default.in_default-own.rest.1 (inl c.in_default.if-kind-lt64-own.true))
 
-pub returns-in_default-y : goal.returns-in_default-y
-unfolding task_of
-returns-in_default-y c = rw (c.in-Power.is, meet-power c.in-Power.p c.args.y c.in_default-y.not-Unknown c.in_default-y.not-Power) refl
-
-pub returns-in_default-y-2 : goal.returns-in_default-y-2
-unfolding task_of
-returns-in_default-y-2 c = rw (c.in-Product.is, meet-product c.in-Product.p c.in-Product.r c.args.y c.in_default-y-2.not-Unknown c.in_default-y-2.not-Product) refl
+pub returns-in_default-2 : goal.returns-in_default-2
+unfolding stem_is
+returns-in_default-2 c = absurd (no_seventh _ _ _ c.args.x.is_root c.if-x-eq-UNKNOWN.false c.in_default.in_default-own.rest.0.0.1 c.in_default.in_default-own.rest.0.1 c.in_default.in_default-own.rest.1 (inr c.in_default.if-kind-lt66-own.false))
