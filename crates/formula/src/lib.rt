@@ -108,7 +108,7 @@ impl Reader<'_> {
 
     // Each row of records is read by a `for` of its own: a closure handed to one function for all would call back into the cycle `reading`, and needs
     // clauses of its own there, longer than the loop.
-    #[tactic(auto, using(crate::specs::Steps::many_done, crate::specs::Steps::many_fault, crate::specs::Steps::many_went), unfolding(crate::specs::Parse::decls_at))]
+    #[tactic(auto, using(crate::specs::Steps::many_steps), unfolding(crate::specs::Parse::decls_at))]
     fn read_decls(self, left: u32, n: u8, st: St) -> Result<St, Fault<Place>>
         ensures { result ≡ forget (decls_at self.entry.names (reach self.entry.s.now) left n st) }
     {
@@ -166,7 +166,7 @@ impl Reader<'_> {
     }
 
     #[cycle(reading)]
-    #[tactic(auto, using(crate::specs::Steps::many_done, crate::specs::Steps::many_fault, crate::specs::Steps::many_went), unfolding(crate::specs::Parse::exprs_at))]
+    #[tactic(auto, using(crate::specs::Steps::many_steps), unfolding(crate::specs::Parse::exprs_at))]
     fn read_exprs(self, left: u32, n: u16, st: St) -> Result<St, Fault<Place>>
         ensures { result ≡ forget (exprs_at left self.entry.names (reach self.entry.s.now) n st) }
     {
@@ -217,7 +217,7 @@ impl Reader<'_> {
     }
 
     #[cycle(reading)]
-    #[tactic(auto, using(crate::specs::Steps::many_done, crate::specs::Steps::many_fault, crate::specs::Steps::many_went), unfolding(crate::specs::Parse::preds_at))]
+    #[tactic(auto, using(crate::specs::Steps::many_steps), unfolding(crate::specs::Parse::preds_at))]
     fn read_preds(self, left: u32, n: u16, st: St) -> Result<St, Fault<Place>>
         ensures { result ≡ forget (preds_at left self.entry.names (reach self.entry.s.now) n st) }
     {
@@ -238,7 +238,7 @@ impl Reader<'_> {
         own(e, st)
     }
 
-    #[tactic(auto, using(crate::specs::Steps::many_done, crate::specs::Steps::many_fault, crate::specs::Steps::many_went), unfolding(crate::specs::Parse::targets_at))]
+    #[tactic(auto, using(crate::specs::Steps::many_steps), unfolding(crate::specs::Parse::targets_at))]
     fn read_targets(self, n: u8, st: St) -> Result<St, Fault<Place>>
         ensures { result ≡ forget (targets_at self.entry.names (reach self.entry.s.now) n st) }
     {
@@ -258,7 +258,7 @@ impl Reader<'_> {
         self.read_expr(false, left, target)
     }
 
-    #[tactic(auto, using(crate::specs::Steps::many_done, crate::specs::Steps::many_fault, crate::specs::Steps::many_went), unfolding(crate::specs::Parse::pairs_at))]
+    #[tactic(auto, using(crate::specs::Steps::many_steps), unfolding(crate::specs::Parse::pairs_at))]
     fn read_pairs(self, left: u32, n: u8, st: St) -> Result<St, Fault<Place>>
         ensures { result ≡ forget (pairs_at left self.entry.names (reach self.entry.s.now) n st) }
     {
