@@ -1,27 +1,30 @@
 // The lent memory is cleared after use.
 #![tactic(auto)]
 
-ghost use Rattle.std.specs.Prelude.{◌≡◌, List, ◌++◌, ℕ, ◌+◌, ◌-◌, ◌≤◌, length, take, replicate};
+ghost use Rattle.std.specs.Prelude.{◌≡◌, ◌++◌, ◌-◌, length, take, replicate};
 ghost use Rattle.memory.specs.Memory.{cleared};
+
+// One value from a place on.
+fn refill<T: Copy>(items: &mut [T], from: usize, value: T)
+    ensures { items.new ≡ take from items.old ++ replicate (length items.old - from) value }
+{
+    if from < items.len() {
+        for item in &mut items[from..] {
+            *item = value;
+        }
+    }
+}
 
 // Zeros from a place on.
 pub fn clear_bytes(bytes: &mut [u8], from: usize)
     ensures { bytes.new ≡ cleared from bytes.old }
 {
-    let mut i = from;
-    while i < bytes.len() {
-        bytes[i] = 0;
-        i += 1;
-    }
+    refill(bytes, from, 0);
 }
 
 // Zeros from a place on.
 pub fn clear_words(words: &mut [u32], from: usize)
     ensures { words.new ≡ cleared from words.old }
 {
-    let mut i = from;
-    while i < words.len() {
-        words[i] = 0;
-        i += 1;
-    }
+    refill(words, from, 0);
 }
