@@ -270,18 +270,18 @@ module _ (names : ℕ) (s : List ℕ) (all : Parsed Entries) (cells : List ℕ) 
 
   -- ---- the answer
 
-  pub told-end : length s ≤ p → Ok cells ≡ told_of all
+  pub told_end : length s ≤ p → Ok cells ≡ told_of all
   unfolding told_of
-  told-end h = ap (λ (l : List ℕ). Ok l) g.built ∙ ap told_of (going_end h)
+  told_end h = ap (λ (l : List ℕ). Ok l) g.built ∙ ap told_of (going_end h)
 
   -- of a stream that is not too long every byte has a place
   module _ (h : p < length s) (small : names ≤ max_names) (bytes : (i : ℕ) → get_or s i 0 < 256) (short : length s ≤ max_bytes) where
     reached : (x : Result Entered (Fault Place)) → entered_at names (reach s) cells (place p) ≡ x → entered_at names s cells (place p) ≡ x
     reached x k = sym (entered_reach names s cells (place p) short) ∙ k
 
-    pub told-wrong : (f : Fault Place) → entered_at names (reach s) cells (place p) ≡ Err f → Err (At f) ≡ told_of all
+    pub told_wrong : (f : Fault Place) → entered_at names (reach s) cells (place p) ≡ Err f → Err (At f) ≡ told_of all
     unfolding told_of Turn
-    told-wrong f k = ap told_of (subst (Turn h) (reached (Err f) k) (turn h small bytes))
+    told_wrong f k = ap told_of (subst (Turn h) (reached (Err f) k) (turn h small bytes))
 
     pub turn-next : (x : Entered) → entered_at names (reach s) cells (place p) ≡ Ok x → (x.name < names) × (x.at.0 ≤ length s) × (p < x.end.0) × Going names s all (set cells x.name (x.at.0 + 1)) x.end.0
     unfolding Turn

@@ -82,6 +82,8 @@ module _ {A B : Type 0} (nil : B) (cons : A → B → B) (m : St → Got A) (n :
     unfolding after
     many_went k t i e = let z : n - 1 ≡ k = omega arith in rw (← many_turn h, e, z)
 
+pub ruleset many_steps = (many_done, many_fault, many_went)
+
 -- ---- types
 
 -- what the code answers to a type's end
@@ -132,11 +134,11 @@ module _ (names : ℕ) (s : List ℕ) (left : ℕ) (st : St) where
   decl_out (Typed e) = after (declare_of e st) (type_in names s left)
   decl_out (Annotated e) = after (declare_of e st) (spelling_in names s left)
 
-  decl-out : (h : DeclHead) → forget (decl_by names s left st h) ≡ decl_out h
+  decl_by_out : (h : DeclHead) → forget (decl_by names s left st h) ≡ decl_out h
   unfolding decl_by decl_out
-  decl-out (Plain e) = sym (forget-own (declare_of e st) _)
-  decl-out (Typed e) = sym (forget-next (declare_of e st) _ (type_in names s left) (λ st₁. forget-last (type_in names s left st₁) _))
-  decl-out (Annotated e) = sym (forget-next (declare_of e st) _ (spelling_in names s left) (λ st₁. forget-last (spelling_in names s left st₁) _))
+  decl_by_out (Plain e) = sym (forget-own (declare_of e st) _)
+  decl_by_out (Typed e) = sym (forget-next (declare_of e st) _ (type_in names s left) (λ st₁. forget-last (type_in names s left st₁) _))
+  decl_by_out (Annotated e) = sym (forget-next (declare_of e st) _ (spelling_in names s left) (λ st₁. forget-last (spelling_in names s left st₁) _))
 
 -- a record by its head: malformed, then too deep, then what is read below it
 unfoldable pub record_out : {H : Type 0} → ℕ → St → (H → Out) → Option H → Out
@@ -151,7 +153,7 @@ decl_code names s left st = go left (decl_head s st.at)
     go zero None = refl
     go (suc l) None = refl
     go zero (Some h) = refl
-    go (suc l) (Some h) = rw (sub-one, ne_eqb (suc l) 0 (λ z. omega arith)) (decl-out names s l st h)
+    go (suc l) (Some h) = rw (sub-one, ne_eqb (suc l) 0 (λ z. omega arith)) (decl_by_out names s l st h)
 
 -- ---- expressions and predicates
 
@@ -199,20 +201,20 @@ module _ (names : ℕ) (s : List ℕ) (left : ℕ) (X : Bool → St → Got Expr
   expr_out (Ascribed e) = after (after (own_of e st) (X false)) (spelling_in names s left)
   expr_out (Explicit e) = after (forget (type_in names s left (moved e st))) (X true)
 
-  expr-out : (h : ExprHead) → forget (expr_by names s left X Q st h) ≡ expr_out h
+  expr_by_out : (h : ExprHead) → forget (expr_by names s left X Q st h) ≡ expr_out h
   unfolding expr_by expr_out
-  expr-out (Free n e) = sym (forget-own (own_of e st) _)
-  expr-out (Bound i e) = sym (forget-own (own_of e st) _)
-  expr-out (Literal e) = sym (forget-own (own_of e st) _)
-  expr-out (Atomic o e) = sym (forget-own (own_of e st) _)
-  expr-out (Extension n e) = sym (once (own_of e st) (many none more (X false) n) Q Q (extension st.at.0))
-  expr-out (Truth e) = sym (once (own_of e st) Q Q Q (truth st.at.0))
-  expr-out (Binary o e) = sym (twice (own_of e st) (X false) (X false) Q (λ a t b. binary st.at.0 o a b))
-  expr-out (Associative o n e) = sym (once (own_of e st) (many none more (X false) n) Q Q (associative st.at.0 o))
-  expr-out (Unary o e) = sym (once (own_of e st) (X false) Q Q (unary st.at.0 o))
-  expr-out (Quantified o n e) = sym (ap (closed_of st.opened) (thrice (own_of e st) (decls_at names s left n) Q (X false) (λ ds q a. quantified st.at.0 o ds q a)) ∙ forget-closing st.opened _)
-  expr-out (Ascribed e) = sym (twice (own_of e st) (X false) (spelling_in names s left) Q (λ a t x. ascribed st.at.0 a t.at.0 x))
-  expr-out (Explicit e) = sym (forget-then (type_in names s left (moved e st)) _ (X true) (λ t st₁. forget-last (X true st₁) (explicit st.at.0 t)))
+  expr_by_out (Free n e) = sym (forget-own (own_of e st) _)
+  expr_by_out (Bound i e) = sym (forget-own (own_of e st) _)
+  expr_by_out (Literal e) = sym (forget-own (own_of e st) _)
+  expr_by_out (Atomic o e) = sym (forget-own (own_of e st) _)
+  expr_by_out (Extension n e) = sym (once (own_of e st) (many none more (X false) n) Q Q (extension st.at.0))
+  expr_by_out (Truth e) = sym (once (own_of e st) Q Q Q (truth st.at.0))
+  expr_by_out (Binary o e) = sym (twice (own_of e st) (X false) (X false) Q (λ a t b. binary st.at.0 o a b))
+  expr_by_out (Associative o n e) = sym (once (own_of e st) (many none more (X false) n) Q Q (associative st.at.0 o))
+  expr_by_out (Unary o e) = sym (once (own_of e st) (X false) Q Q (unary st.at.0 o))
+  expr_by_out (Quantified o n e) = sym (ap (closed_of st.opened) (thrice (own_of e st) (decls_at names s left n) Q (X false) (λ ds q a. quantified st.at.0 o ds q a)) ∙ forget-closing st.opened _)
+  expr_by_out (Ascribed e) = sym (twice (own_of e st) (X false) (spelling_in names s left) Q (λ a t x. ascribed st.at.0 a t.at.0 x))
+  expr_by_out (Explicit e) = sym (forget-then (type_in names s left (moved e st)) _ (X true) (λ t st₁. forget-last (X true st₁) (explicit st.at.0 t)))
 
   unfoldable pub pred_out : PredHead → Out
   pred_out (Constant e) = Ok (moved e st)
@@ -226,18 +228,18 @@ module _ (names : ℕ) (s : List ℕ) (left : ℕ) (X : Bool → St → Got Expr
   pred_out (Multiple n e) = forget (many none more (X false) n (moved e st))
   pred_out (Application n e) = forget (many none more (X false) n (moved e st))
 
-  pred-out : (h : PredHead) → forget (pred_by names s left X Q st h) ≡ pred_out h
+  pred_by_out : (h : PredHead) → forget (pred_by names s left X Q st h) ≡ pred_out h
   unfolding forget pred_by pred_out
-  pred-out (Constant e) = refl
-  pred-out (Variable e) = refl
-  pred-out (Relational o e) = sym (forget-then (X false (moved e st)) _ (X false) (λ a st₁. forget-last (X false st₁) (relational st.at.0 o a)))
-  pred-out (Connective e) = sym (forget-then (Q (moved e st)) _ Q (λ a st₁. forget-last (Q st₁) (connective st.at.0 a)))
-  pred-out (Junction n e) = sym (forget-last (many end also Q n (moved e st)) (junction st.at.0))
-  pred-out (Negation e) = sym (forget-last (Q (moved e st)) (negation st.at.0))
-  pred-out (Quantification n e) = sym (ap (closed_of st.opened) (forget-then (decls_at names s left n (moved e st)) _ Q (λ ds st₁. forget-last (Q st₁) (quantification st.at.0 ds))) ∙ forget-closing st.opened _)
-  pred-out (Simple e) = sym (forget-last (X false (moved e st)) (simple st.at.0))
-  pred-out (Multiple n e) = sym (forget-last (many none more (X false) n (moved e st)) (multiple st.at.0))
-  pred-out (Application n e) = sym (forget-last (many none more (X false) n (moved e st)) (application st.at.0))
+  pred_by_out (Constant e) = refl
+  pred_by_out (Variable e) = refl
+  pred_by_out (Relational o e) = sym (forget-then (X false (moved e st)) _ (X false) (λ a st₁. forget-last (X false st₁) (relational st.at.0 o a)))
+  pred_by_out (Connective e) = sym (forget-then (Q (moved e st)) _ Q (λ a st₁. forget-last (Q st₁) (connective st.at.0 a)))
+  pred_by_out (Junction n e) = sym (forget-last (many end also Q n (moved e st)) (junction st.at.0))
+  pred_by_out (Negation e) = sym (forget-last (Q (moved e st)) (negation st.at.0))
+  pred_by_out (Quantification n e) = sym (ap (closed_of st.opened) (forget-then (decls_at names s left n (moved e st)) _ Q (λ ds st₁. forget-last (Q st₁) (quantification st.at.0 ds))) ∙ forget-closing st.opened _)
+  pred_by_out (Simple e) = sym (forget-last (X false (moved e st)) (simple st.at.0))
+  pred_by_out (Multiple n e) = sym (forget-last (many none more (X false) n (moved e st)) (multiple st.at.0))
+  pred_by_out (Application n e) = sym (forget-last (many none more (X false) n (moved e st)) (application st.at.0))
 
 pub expr_code : (left names : ℕ) (s : List ℕ) (bare : Bool) (st : St) → forget (expr_at left names s bare st) ≡ record_out left st (expr_out names s (left - 1) (expr_at (left - 1) names s) (pred_at (left - 1) names s) st) (expr_head names s bare st.at)
 unfolding forget expr_at expr_if expr_deep record_out
@@ -247,7 +249,7 @@ expr_code left names s bare st = go left (expr_head names s bare st.at) refl
     go zero None e = rw e
     go (suc l) None e = rw e
     go zero (Some h) e = rw e
-    go (suc l) (Some h) e = rw (sub-one, e, ne_eqb (suc l) 0 (λ z. omega arith)) (expr-out names s l (expr_at l names s) (pred_at l names s) st h)
+    go (suc l) (Some h) e = rw (sub-one, e, ne_eqb (suc l) 0 (λ z. omega arith)) (expr_by_out names s l (expr_at l names s) (pred_at l names s) st h)
 
 pub pred_code : (left names : ℕ) (s : List ℕ) (st : St) → forget (pred_at left names s st) ≡ record_out left st (pred_out names s (left - 1) (expr_at (left - 1) names s) (pred_at (left - 1) names s) st) (pred_head s st.at)
 unfolding forget pred_at pred_if pred_deep record_out
@@ -257,7 +259,7 @@ pred_code left names s st = go left (pred_head s st.at) refl
     go zero None e = rw e
     go (suc l) None e = rw e
     go zero (Some h) e = rw e
-    go (suc l) (Some h) e = rw (sub-one, e, ne_eqb (suc l) 0 (λ z. omega arith)) (pred-out names s l (expr_at l names s) (pred_at l names s) st h)
+    go (suc l) (Some h) e = rw (sub-one, e, ne_eqb (suc l) 0 (λ z. omega arith)) (pred_by_out names s l (expr_at l names s) (pred_at l names s) st h)
 
 -- ---- formulas
 

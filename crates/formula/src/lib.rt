@@ -64,7 +64,7 @@ struct Reader<'a> {
     names: u32,
 }
 
-impl<'a> Reader<'a> {
+impl Reader<'_> {
     // ---- types and declarations. left: the levels of records that remain, the next record's included
 
     #[tactic(auto, using(crate::specs::Steps::type_code), unfolding(crate::specs::Steps::type_out, crate::specs::Reader::moved))]
@@ -106,7 +106,9 @@ impl<'a> Reader<'a> {
         }
     }
 
-    #[tactic(auto, using(crate::specs::Steps::many_done, crate::specs::Steps::many_fault, crate::specs::Steps::many_went), unfolding(crate::specs::Parse::decls_at))]
+    // Each row of records is read by a `for` of its own: a closure handed to one function for all would call back into the cycle `reading`, and needs
+    // clauses of its own there, longer than the loop.
+    #[tactic(auto, using(crate::specs::Steps::many_steps), unfolding(crate::specs::Parse::decls_at))]
     fn read_decls(self, left: u32, n: u8, st: St) -> Result<St, Fault<Place>>
         ensures { result ≡ forget (decls_at self.entry.names (reach self.entry.s.now) left n st) }
     {
@@ -164,7 +166,7 @@ impl<'a> Reader<'a> {
     }
 
     #[cycle(reading)]
-    #[tactic(auto, using(crate::specs::Steps::many_done, crate::specs::Steps::many_fault, crate::specs::Steps::many_went), unfolding(crate::specs::Parse::exprs_at))]
+    #[tactic(auto, using(crate::specs::Steps::many_steps), unfolding(crate::specs::Parse::exprs_at))]
     fn read_exprs(self, left: u32, n: u16, st: St) -> Result<St, Fault<Place>>
         ensures { result ≡ forget (exprs_at left self.entry.names (reach self.entry.s.now) n st) }
     {
@@ -176,7 +178,7 @@ impl<'a> Reader<'a> {
     }
 
     #[cycle(reading)]
-    #[tactic(auto, using(crate::specs::Steps::pred_code), unfolding(crate::specs::Steps::record_out, crate::specs::Steps::pred_out, crate::specs::Reader::after, crate::specs::Reader::moved, crate::specs::Reader::closed_of, crate::specs::Reader::closed, crate::specs::Parse::exprs_at, crate::specs::Parse::preds_at))]
+    #[tactic(auto, using(crate::specs::Steps::pred_code), unfolding(crate::specs::Steps::record_out, crate::specs::Steps::pred_out, heads::specs::Heads::pred_end, crate::specs::Reader::after, crate::specs::Reader::moved, crate::specs::Reader::closed_of, crate::specs::Reader::closed, crate::specs::Parse::exprs_at, crate::specs::Parse::preds_at))]
     fn read_pred(self, left: u32, st: St) -> Result<St, Fault<Place>>
         ensures { result ≡ forget (pred_at left self.entry.names (reach self.entry.s.now) st) }
     {
@@ -185,37 +187,37 @@ impl<'a> Reader<'a> {
             return Err(Fault::Beyond(st.at));
         }
         let l = left - 1;
+        let begin = St {
+            at: heads::pred_end(h),
+            ..st
+        };
         match h {
-            PredHead::Constant(e) | PredHead::Variable(e) => Ok(St { at: e, ..st }),
-            PredHead::Relational(_, e) => {
-                let a = self.read_expr(false, l, St { at: e, ..st })?;
+            PredHead::Constant(_) | PredHead::Variable(_) => Ok(begin),
+            PredHead::Relational(..) => {
+                let a = self.read_expr(false, l, begin)?;
                 self.read_expr(false, l, a)
             }
-            PredHead::Connective(e) => {
-                let a = self.read_pred(l, St { at: e, ..st })?;
+            PredHead::Connective(_) => {
+                let a = self.read_pred(l, begin)?;
                 self.read_pred(l, a)
             }
-            PredHead::Junction(n, e) => self.read_preds(l, n, St { at: e, ..st }),
-            PredHead::Negation(e) => self.read_pred(l, St { at: e, ..st }),
-            PredHead::Quantification(n, e) => {
-                let ds = self.read_decls(l, n, St { at: e, ..st })?;
+            PredHead::Junction(n, _) => self.read_preds(l, n, begin),
+            PredHead::Negation(_) => self.read_pred(l, begin),
+            PredHead::Quantification(n, _) => {
+                let ds = self.read_decls(l, n, begin)?;
                 let end = self.read_pred(l, ds)?;
                 Ok(St {
                     opened: st.opened,
                     ..end
                 })
             }
-            PredHead::Simple(e) => self.read_expr(false, l, St { at: e, ..st }),
-            PredHead::Multiple(n, e) | PredHead::Application(n, e) => self.read_exprs(
-                l,
-                n,
-                St { at: e, ..st },
-            ),
+            PredHead::Simple(_) => self.read_expr(false, l, begin),
+            PredHead::Multiple(n, _) | PredHead::Application(n, _) => self.read_exprs(l, n, begin),
         }
     }
 
     #[cycle(reading)]
-    #[tactic(auto, using(crate::specs::Steps::many_done, crate::specs::Steps::many_fault, crate::specs::Steps::many_went), unfolding(crate::specs::Parse::preds_at))]
+    #[tactic(auto, using(crate::specs::Steps::many_steps), unfolding(crate::specs::Parse::preds_at))]
     fn read_preds(self, left: u32, n: u16, st: St) -> Result<St, Fault<Place>>
         ensures { result ≡ forget (preds_at left self.entry.names (reach self.entry.s.now) n st) }
     {
@@ -236,7 +238,7 @@ impl<'a> Reader<'a> {
         own(e, st)
     }
 
-    #[tactic(auto, using(crate::specs::Steps::many_done, crate::specs::Steps::many_fault, crate::specs::Steps::many_went), unfolding(crate::specs::Parse::targets_at))]
+    #[tactic(auto, using(crate::specs::Steps::many_steps), unfolding(crate::specs::Parse::targets_at))]
     fn read_targets(self, n: u8, st: St) -> Result<St, Fault<Place>>
         ensures { result ≡ forget (targets_at self.entry.names (reach self.entry.s.now) n st) }
     {
@@ -256,7 +258,7 @@ impl<'a> Reader<'a> {
         self.read_expr(false, left, target)
     }
 
-    #[tactic(auto, using(crate::specs::Steps::many_done, crate::specs::Steps::many_fault, crate::specs::Steps::many_went), unfolding(crate::specs::Parse::pairs_at))]
+    #[tactic(auto, using(crate::specs::Steps::many_steps), unfolding(crate::specs::Parse::pairs_at))]
     fn read_pairs(self, left: u32, n: u8, st: St) -> Result<St, Fault<Place>>
         ensures { result ≡ forget (pairs_at left self.entry.names (reach self.entry.s.now) n st) }
     {
@@ -343,7 +345,7 @@ struct Entered {
     end: Place,
 }
 
-impl<'a> Reader<'a> {
+impl Reader<'_> {
     // An entry's head: 50 and a name below the count.
     #[tactic(auto, unfolding(crate::specs::EnvParse::entry_at, heads::specs::Heads::on_part))]
     fn entry_at(self, at: Place) -> Option<(u16, Place)>

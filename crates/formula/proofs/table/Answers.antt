@@ -1,4 +1,4 @@
-use Rattle.formula.specs.EnvSteps.{Going, entered_at, going_start, turn-next, told-end, told-wrong, told_long, told_whole}
+use Rattle.formula.specs.EnvSteps.{Going, entered_at, going_start, turn-next, told_end, told_wrong, told_long, told_whole}
 use Rattle.formula.specs.Parse.{Parsed}
 use Rattle.formula.specs.Environment.{Entries}
 use Rattle.formula.specs.declared.Entered.{Entered}
@@ -36,8 +36,8 @@ pub returns-in_err-entered : goal.returns-in_err-entered
 returns-in_err-entered c =
     let n = c.min-names.ensures in
     let p = err_from_is_err_and c.from_residual.result c.from_residual.ensures.1 in
-    rw (p.1, p.2) (told-wrong _ _ _ _ _ c.loop-at.invariant c.loop-at-test.true (omega arith) (λ i. let z = c.type_inv.s i in omega arith) c.if-s-gt-MAX_BYTES.false _ (sym c.read_entry.ensures ∙ c.in_err-entered.was)
+    rw (p.1, p.2) (told_wrong _ _ _ _ _ c.loop-at.invariant c.loop-at-test.true (omega arith) (λ i. let z = c.type_inv.s i in omega arith) c.if-s-gt-MAX_BYTES.false _ (sym c.read_entry.ensures ∙ c.in_err-entered.was)
     ∙ told_whole _ _ _ c.min-names.ensures c.if-s-gt-MAX_BYTES.false)
 
 pub returns : goal.returns
-returns c = told-end _ _ _ _ _ c.loop-at.invariant c.loop-at-test.false ∙ told_whole _ _ _ c.min-names.ensures c.if-s-gt-MAX_BYTES.false
+returns c = told_end _ _ _ _ _ c.loop-at.invariant c.loop-at-test.false ∙ told_whole _ _ _ c.min-names.ensures c.if-s-gt-MAX_BYTES.false
