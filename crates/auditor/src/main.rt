@@ -103,13 +103,16 @@ fn small(rt: &impl Print) -> io::Result<()> {
     infer_amply(rt, "10 an extension of nothing", b"\x05\x00\x00", b"")
 }
 
-fn nested(rt: &impl Print) -> io::Result<()> {
-    let mut inside = [0x25u8; 65];
-    inside[64] = 0x20;
-    infer_amply(rt, "11 64 negations", &inside, b"")?;
-    let mut beyond = [0x25u8; 66];
-    beyond[65] = 0x20;
-    infer_amply(rt, "11 65 negations", &beyond, b"")
+// 64 and 65 negations of a constant.
+fn nested(rt: &HostRuntime) -> io::Result<()> {
+    let alloc = rt.alloc();
+    for count in [64, 65] {
+        let mut formula = b"\x25".repeat(alloc, count)?;
+        formula.push(0x20)?;
+        let case = format!(in alloc; "11 {count} negations")?;
+        infer_amply(rt, case.as_str(), formula.as_slice(), b"")?;
+    }
+    Ok(())
 }
 
 // ---- type text

@@ -1,4 +1,4 @@
--- The operators' scripts against the walk's tables: each number of the machine's table plays the walk's script.
+-- The operators' scripts against the walk's tables: each script that the machine plays for an operator is the walk's.
 -- After this file every operator of the format plays as the walk performs it; the agreement of the tables is computed, row by row.
 use Rattle.std.specs.Prelude.{ℕ, zero, suc, ◌+◌, ◌≤◌, ◌<◌, ◌≡◌, refl, Bool, true, List, [], ◌∷◌, length}
 use Rattle.std.proofs.Common.{sym, ◌∙◌, ap, subst, arith}

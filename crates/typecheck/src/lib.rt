@@ -45,6 +45,7 @@ fn walk(
 }
 
 // Inference over inputs whose sizes are in order and whose environment is well formed.
+// Its parameters are those of `infer`, which is public: a struct of them would be made for this one call.
 fn infer_formula(
     formula: &[u8],
     environment: &[u8],
