@@ -1,9 +1,10 @@
 -- The reader's second pass: the record of a text that was taken is put into a page.
 use Rattle.std.specs.Prelude.{ℕ, zero, suc, ◌+◌, ◌-◌, ◌≤◌, ◌<◌, ◌%◌, ◌/◌, ◌≡◌, refl, List, [], ◌∷◌, ◌++◌, get_or, take, drop, set, Option, Some, None}
 use native.Mathlib.Omega.{arith}
-use Rattle.std.proofs.Common.{take-take, ◌∙◌, length-append, length-drop, drop_of_length-le, take_all, take_at, drop_at, length-take-le, drop-drop}
+use Rattle.std.proofs.Common.{take-take, ◌∙◌, length-append, drop_of_length-le, take_at, drop_at, length-take-le, drop-drop}
 use Rattle.std.proofs.Math.Path.{sym, ap}
 use Rattle.std.proofs.Math.ListN.{length}
+use Rattle.std.specs.Int.{to_le_bytes, w32}
 use Rattle.std.specs.Result.{result_unwrap_or}
 use Rattle.types.specs.Ty.{Ty, base, pow, prod, spell, spell_atom, AtomBelow, bool-below, int-below, given_below}
 use Rattle.types.specs.Ty as T
@@ -50,11 +51,6 @@ deep-got p t e h = let z : ◌≡◌ {A = ℕ} 0 1 = cc in omega arith
 -- ---- lending
 
 module _ (x : TypeAt) (from : ℕ) (old : List ℕ) where
-  pub lay-lent-ready : LayReady x from (length old) → LayReady x 0 (length (take (length old - from) (drop from old)))
-  lay-lent-ready R =
-      let all : length (take (length old - from) (drop from old)) ≡ length old - from = ap length (take_all (length old - from) (drop from old) (omega (arith, length-drop from old))) ∙ length-drop from old in
-      record { type = R.type; end = R.end; stands = R.stands; fits = omega (arith, R.fits) }
-
   pub lay-lent-end : (part new : List ℕ) (e n : ℕ) → from ≤ length old → Laid x 0 (take (length old - from) (drop from old)) part e n → new ≡ take from old ++ (part ++ drop (length old - from) (drop from old)) → Laid x from old new e n
   unfolding Laid
   lay-lent-end part new e n h w g = λ t f st. let z = w t f st in (z.0, splice_lent from _ old part new n h z.1 g)
@@ -324,10 +320,13 @@ module _ (a : Atom) where
   spell-integer e = sym (rw e)
 
   module _ (n : Name) (e : a ≡ A.Given n) (h : Small (atom_is a)) where
-    pub given-small : n.0 < 65536
+    given-small : n.0 < 65536
     unfolding Small atom_is
     given-small = let s : Small (atom_is (A.Given n)) = rw e at h in s
 
-    pub spell-given : (0x42 ∷ n.0 % 256 ∷ n.0 / 256 % 256 ∷ []) ≡ spell_atom (atom_is a)
+    spell-given : (0x42 ∷ n.0 % 256 ∷ n.0 / 256 % 256 ∷ []) ≡ spell_atom (atom_is a)
     unfolding spell_atom atom_is
     spell-given = let z : n.0 / 256 % 256 ≡ n.0 / 256 = omega (arith, given-small) in rw z (sym (rw e))
+
+    pub spell-bytes : (b : List ℕ) → b ≡ to_le_bytes w32 n.0 → (0x42 ∷ get_or b 0 0 ∷ get_or b 1 0 ∷ []) ≡ spell_atom (atom_is a)
+    spell-bytes b g = rw g spell-given

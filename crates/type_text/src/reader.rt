@@ -80,9 +80,8 @@ fn lay_atom(a: Atom, page: &mut [u8]) -> usize
         Atom::Bool => copy(page, 0, &KIND_BOOL),
         Atom::Integer => copy(page, 0, &KIND_INTEGER),
         Atom::Given(name) => {
-            let n = name.0;
-            let b = [0x42u8, (n % 256) as u8, (n / 256 % 256) as u8];
-            copy(page, 0, &b)
+            let [low, high, ..] = name.0.to_le_bytes();
+            copy(page, 0, &[0x42, low, high])
         }
     }
 }
