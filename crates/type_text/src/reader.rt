@@ -144,7 +144,7 @@ impl Reader<'_> {
         }
     }
 
-    // The same of a product. Each turn reads a × and an operand, so the text's length is turns enough.
+    // The same of a product.
     #[cycle(scanning)]
     pub fn scan_product(
         &self,
@@ -154,10 +154,7 @@ impl Reader<'_> {
         ensures { result ≡ scanned_of room (product_of c.left (names self.now.table.now) self.now.text.now c.at) }
     {
         let (mut e, mut d, mut r) = self.scan_operand(c, room)?;
-        for _turn in 0..self.text.len() {
-            let Some(Token::Times(q)) = self.token(e) else {
-                break;
-            };
+        while let Some(Token::Times(q)) = self.token(e) {
             let (f, d2, r2) = self.scan_operand(
                 Cursor {
                     at: q,
@@ -239,10 +236,7 @@ impl Reader<'_> {
         let w = self.lay_operand(c, page);
         let mut end = w.end;
         let mut width = w.width;
-        for _turn in 0..self.text.len() {
-            let Some(Token::Times(q)) = self.token(end) else {
-                break;
-            };
+        while let Some(Token::Times(q)) = self.token(end) {
             lead(page, width, KIND_PRODUCT);
             let m = width + 1;
             let b = self.lay_operand_at(

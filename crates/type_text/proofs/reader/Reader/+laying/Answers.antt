@@ -5,7 +5,7 @@ use borrow.Enum.Refused.{opened}
 use Rattle.name_table.specs.Table.{names}
 use Rattle.type_grammar.specs.Parse.{operand_by, times_on}
 use Rattle.type_text.proofs.Laws.{operand_else, times-over}
-use Rattle.type_text.specs.Lay.{lay-lent-end, lay-deep, lay-none, lay-leaf-fits, leaf-small, lay-leaf-end, lay-power-fits, lay-power-ready, lay-power-sum, lay-power-end, lay_open_ready, lay_open_end, lay-first, going_start, going_done, going_else, going-room, going-ready, going-sum, going_on}
+use Rattle.type_text.specs.Lay.{lay-lent-end, lay-deep, lay-none, lay-leaf-fits, leaf-small, lay-leaf-end, lay-power-fits, lay-power-ready, lay-power-sum, lay-power-end, lay_open_ready, lay_open_end, lay-first, going_start, going_else, going-room, going-ready, going-sum, going-within, going_on}
 use Rattle.type_text.proofs.reader.Reader.+laying.Goals as goal
 
 pub lay_operand-lay_atom-n-requires-clause-a_in_bounds : goal.lay_operand-lay_atom-n-requires-clause-a_in_bounds
@@ -54,33 +54,33 @@ lay_operand_at-returns t c = lay-lent-end _ c.args.from c.args.page.now _ _ _ _ 
 pub lay_product-lay_operand-w-requires : goal.lay_product-lay_operand-w-requires
 lay_product-lay_operand-w-requires t c = (omega (arith, c.decreases), lay-first _ _ _ _ c.args.page.now c.requires)
 
-pub lay_product-loop-turn-init : goal.lay_product-loop-turn-init
-lay_product-loop-turn-init t c = (going_start _ _ _ _ _ _ _ _ c.lay_operand-w.ensures, refl)
+pub lay_product-loop-q-init : goal.lay_product-loop-q-init
+lay_product-loop-q-init t c = (going_start _ _ _ _ _ _ _ _ c.lay_operand-w.ensures, refl)
 
 pub lay_product-lead-requires : goal.lay_product-lead-requires
-lay_product-lead-requires t c = going-room c.args.c.left (names c.args.self.now.table.now) c.args.self.now.text.now c.args.c.at c.args.page.now c.loop-turn.page c.loop-turn.end c.loop-turn.width _ c.loop-turn._turn c.loop-turn.invariant.0 (omega (arith, c.loop-turn-test.true)) _ c.token.ensures _ (c.in-Some-Times.is ∙ ap Some c.in-Some-Times.field-0-is) c.requires
+lay_product-lead-requires t c = going-room c.args.c.left (names c.args.self.now.table.now) c.args.self.now.text.now c.args.c.at c.args.page.now c.loop-q.page c.loop-q.end c.loop-q.width c.loop-q.invariant.0 _ c.token.ensures _ (c.in-Some-Times.is ∙ ap Some c.in-Some-Times.field-0-is) c.requires
 
 pub lay_product-overflow_add-m : goal.lay_product-overflow_add-m
-lay_product-overflow_add-m t c = omega (arith, c.loop-turn.invariant.1, c.lay_operand-w.auto, going-room c.args.c.left (names c.args.self.now.table.now) c.args.self.now.text.now c.args.c.at c.args.page.now c.loop-turn.page c.loop-turn.end c.loop-turn.width _ c.loop-turn._turn c.loop-turn.invariant.0 (omega (arith, c.loop-turn-test.true)) _ c.token.ensures _ (c.in-Some-Times.is ∙ ap Some c.in-Some-Times.field-0-is) c.requires)
+lay_product-overflow_add-m t c = omega (arith, c.loop-q.invariant.1, c.lay_operand-w.auto, going-room c.args.c.left (names c.args.self.now.table.now) c.args.self.now.text.now c.args.c.at c.args.page.now c.loop-q.page c.loop-q.end c.loop-q.width c.loop-q.invariant.0 _ c.token.ensures _ (c.in-Some-Times.is ∙ ap Some c.in-Some-Times.field-0-is) c.requires)
 
 pub lay_product-lay_operand_at-b-requires : goal.lay_product-lay_operand_at-b-requires
-lay_product-lay_operand_at-b-requires t c = (omega (arith, c.decreases), going-ready c.args.c.left (names c.args.self.now.table.now) c.args.self.now.text.now c.args.c.at c.args.page.now c.loop-turn.page c.loop-turn.end c.loop-turn.width _ c.loop-turn._turn c.loop-turn.invariant.0 (omega (arith, c.loop-turn-test.true)) _ c.token.ensures _ (c.in-Some-Times.is ∙ ap Some c.in-Some-Times.field-0-is) c.requires _ c.lead.ensures)
+lay_product-lay_operand_at-b-requires t c = (omega (arith, c.decreases), going-ready c.args.c.left (names c.args.self.now.table.now) c.args.self.now.text.now c.args.c.at c.args.page.now c.loop-q.page c.loop-q.end c.loop-q.width c.loop-q.invariant.0 _ c.token.ensures _ (c.in-Some-Times.is ∙ ap Some c.in-Some-Times.field-0-is) c.requires _ c.lead.ensures)
 
 pub lay_product-overflow_add-width : goal.lay_product-overflow_add-width
-lay_product-overflow_add-width t c = omega (arith, going-sum c.args.c.left (names c.args.self.now.table.now) c.args.self.now.text.now c.args.c.at c.args.page.now c.loop-turn.page c.loop-turn.end c.loop-turn.width _ c.loop-turn._turn c.loop-turn.invariant.0 (omega (arith, c.loop-turn-test.true)) _ c.token.ensures _ (c.in-Some-Times.is ∙ ap Some c.in-Some-Times.field-0-is) c.requires _ c.lead.ensures _ _ _ c.lay_operand_at-b.ensures)
+lay_product-overflow_add-width t c = omega (arith, going-sum c.args.c.left (names c.args.self.now.table.now) c.args.self.now.text.now c.args.c.at c.args.page.now c.loop-q.page c.loop-q.end c.loop-q.width c.loop-q.invariant.0 _ c.token.ensures _ (c.in-Some-Times.is ∙ ap Some c.in-Some-Times.field-0-is) c.requires _ c.lead.ensures _ _ _ c.lay_operand_at-b.ensures)
 
-pub lay_product-loop-turn-preserved : goal.lay_product-loop-turn-preserved
-lay_product-loop-turn-preserved t c = (going_on c.args.c.left (names c.args.self.now.table.now) c.args.self.now.text.now c.args.c.at c.args.page.now c.loop-turn.page c.loop-turn.end c.loop-turn.width _ c.loop-turn._turn c.loop-turn.invariant.0 (omega (arith, c.loop-turn-test.true)) _ c.token.ensures _ (c.in-Some-Times.is ∙ ap Some c.in-Some-Times.field-0-is) c.requires _ c.lead.ensures _ _ _ c.lay_operand_at-b.ensures, search rules)
+pub lay_product-loop-q-preserved : goal.lay_product-loop-q-preserved
+lay_product-loop-q-preserved t c = (going_on c.args.c.left (names c.args.self.now.table.now) c.args.self.now.text.now c.args.c.at c.args.page.now c.loop-q.page c.loop-q.end c.loop-q.width c.loop-q.invariant.0 _ c.token.ensures _ (c.in-Some-Times.is ∙ ap Some c.in-Some-Times.field-0-is) c.requires _ c.lead.ensures _ _ _ c.lay_operand_at-b.ensures, search rules)
 
-pub lay_product-returns-after-loop-turn : goal.lay_product-returns-after-loop-turn
-lay_product-returns-after-loop-turn t c = going_done c.args.c.left (names c.args.self.now.table.now) c.args.self.now.text.now c.args.c.at c.args.page.now c.loop-turn.page c.loop-turn.end c.loop-turn.width _ c.loop-turn._turn c.loop-turn.invariant.0 (omega (arith, c.loop-turn-test.false))
+pub lay_product-loop-q-smaller : goal.lay_product-loop-q-smaller
+lay_product-loop-q-smaller t c = going-within c.args.c.left (names c.args.self.now.table.now) c.args.self.now.text.now c.args.c.at c.args.page.now c.loop-q.page c.loop-q.end c.loop-q.width c.loop-q.invariant.0 _ c.token.ensures _ (c.in-Some-Times.is ∙ ap Some c.in-Some-Times.field-0-is) c.requires _ c.lead.ensures _ _ _ c.lay_operand_at-b.ensures
 
 pub lay_product-returns-in_default : goal.lay_product-returns-in_default
-lay_product-returns-in_default t c = going_else c.args.c.left (names c.args.self.now.table.now) c.args.self.now.text.now c.args.c.at c.args.page.now c.loop-turn.page c.loop-turn.end c.loop-turn.width _ c.loop-turn._turn c.loop-turn.invariant.0 (omega (arith, c.loop-turn-test.true)) _ c.token.ensures (times-over _ _ _ (opened c.in_default.in_default-own.keys2) (cc))
+lay_product-returns-in_default t c = going_else c.args.c.left (names c.args.self.now.table.now) c.args.self.now.text.now c.args.c.at c.args.page.now c.loop-q.page c.loop-q.end c.loop-q.width c.loop-q.invariant.0 _ c.token.ensures (times-over _ _ _ (opened c.in_default.in_default-own.keys2) (cc))
 
 pub lay_product-returns-in_default-2 : goal.lay_product-returns-in_default-2
 unfolding times_on
-lay_product-returns-in_default-2 t c = going_else c.args.c.left (names c.args.self.now.table.now) c.args.self.now.text.now c.args.c.at c.args.page.now c.loop-turn.page c.loop-turn.end c.loop-turn.width _ c.loop-turn._turn c.loop-turn.invariant.0 (omega (arith, c.loop-turn-test.true)) _ c.token.ensures (λ more u. ap (times_on more u _) c.in_default.is)
+lay_product-returns-in_default-2 t c = going_else c.args.c.left (names c.args.self.now.table.now) c.args.self.now.text.now c.args.c.at c.args.page.now c.loop-q.page c.loop-q.end c.loop-q.width c.loop-q.invariant.0 _ c.token.ensures (λ more u. ap (times_on more u _) c.in_default.is)
 
 pub lay_product_at-returns : goal.lay_product_at-returns
 lay_product_at-returns t c = lay-lent-end _ c.args.from c.args.page.now _ _ _ _ (omega (arith, c.requires.fits)) c.lay_product.ensures refl
