@@ -155,13 +155,7 @@ impl Reader<'_> {
     {
         let (mut e, mut d, mut r) = self.scan_operand(c, room)?;
         while let Some(Token::Times(q)) = self.token(e) {
-            let (f, d2, r2) = self.scan_operand(
-                Cursor {
-                    at: q,
-                    left: c.left,
-                },
-                spend(r, 1),
-            )?;
+            let (f, d2, r2) = self.scan_operand(Cursor { at: q, ..c }, spend(r, 1))?;
             e = f;
             d = deeper(d.max(d2));
             r = r2;
@@ -239,14 +233,7 @@ impl Reader<'_> {
         while let Some(Token::Times(q)) = self.token(end) {
             lead(page, width, KIND_PRODUCT);
             let m = width + 1;
-            let b = self.lay_operand_at(
-                Cursor {
-                    at: q,
-                    left: c.left,
-                },
-                page,
-                m,
-            );
+            let b = self.lay_operand_at(Cursor { at: q, ..c }, page, m);
             end = b.end;
             width = m + b.width;
         }
