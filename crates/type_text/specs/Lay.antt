@@ -1,7 +1,7 @@
 -- The reader's second pass: the record of a text that was taken is put into a page.
 use Rattle.std.specs.Prelude.{ℕ, zero, suc, ◌+◌, ◌-◌, ◌≤◌, ◌<◌, ◌%◌, ◌/◌, ◌≡◌, refl, List, [], ◌∷◌, ◌++◌, get_or, take, drop, set, Option, Some, None}
 use native.Mathlib.Omega.{arith}
-use Rattle.std.proofs.Common.{take-take, ◌∙◌, length-append, drop_of_length-le, take_at, drop_at, length-take-le, drop-drop}
+use Rattle.std.proofs.Common.{take_all, length-drop, take-take, ◌∙◌, length-append, drop_of_length-le, take_at, drop_at, length-take-le, drop-drop}
 use Rattle.std.proofs.Math.Path.{sym, ap}
 use Rattle.std.proofs.Math.ListN.{length}
 use Rattle.std.specs.Int.{to_le_bytes, w32}
@@ -51,6 +51,11 @@ deep-got p t e h = let z : ◌≡◌ {A = ℕ} 0 1 = cc in omega arith
 -- ---- lending
 
 module _ (x : TypeAt) (from : ℕ) (old : List ℕ) where
+  pub lay-lent-ready : LayReady x from (length old) → LayReady x 0 (length (take (length old - from) (drop from old)))
+  lay-lent-ready R =
+      let all : length (take (length old - from) (drop from old)) ≡ length old - from = ap length (take_all (length old - from) (drop from old) (omega (arith, length-drop from old))) ∙ length-drop from old in
+      record { type = R.type; end = R.end; stands = R.stands; fits = omega (arith, R.fits) }
+
   pub lay-lent-end : (part new : List ℕ) (e n : ℕ) → from ≤ length old → Laid x 0 (take (length old - from) (drop from old)) part e n → new ≡ take from old ++ (part ++ drop (length old - from) (drop from old)) → Laid x from old new e n
   unfolding Laid
   lay-lent-end part new e n h w g = λ t f st. let z = w t f st in (z.0, splice_lent from _ old part new n h z.1 g)

@@ -179,7 +179,7 @@ impl Reader<'_> {
                     left: c.left - 1,
                 };
                 let n = copy(page, 0, &KIND_POWER);
-                let w = self.lay_product_at(inside, page, n);
+                let w = self.lay_product(inside, &mut page[n..]);
                 Wrote {
                     end: self.close(w.end).unwrap_or(w.end),
                     width: n + w.width,
@@ -190,7 +190,7 @@ impl Reader<'_> {
                     at: q,
                     left: c.left - 1,
                 };
-                let w = self.lay_product_at(inside, page, 0);
+                let w = self.lay_product(inside, page);
                 Wrote {
                     end: self.close(w.end).unwrap_or(w.end),
                     width: w.width,
@@ -201,24 +201,6 @@ impl Reader<'_> {
                 width: 0,
             },
         }
-    }
-
-    // Lends the page's tail to a nested operand.
-    #[cycle(laying)]
-    fn lay_operand_at(&self, c: Cursor, page: &mut [u8], from: usize) -> Wrote
-        requires { LayReady (operand_of c.left (names self.now.table.now) self.now.text.now c.at) from (length page.old) }
-        ensures { Laid (operand_of c.left (names self.now.table.now) self.now.text.now c.at) from page.old page.new result.end result.width }
-    {
-        self.lay_operand(c, &mut page[from..])
-    }
-
-    // Lends the page's tail to a product in brackets.
-    #[cycle(laying)]
-    fn lay_product_at(&self, c: Cursor, page: &mut [u8], from: usize) -> Wrote
-        requires { LayReady (product_of c.left (names self.now.table.now) self.now.text.now c.at) from (length page.old) }
-        ensures { Laid (product_of c.left (names self.now.table.now) self.now.text.now c.at) from page.old page.new result.end result.width }
-    {
-        self.lay_product(c, &mut page[from..])
     }
 
     // Each × moves the record so far one place on. The type is at most 64 deep by now, so no byte moves more often than that.
@@ -233,7 +215,7 @@ impl Reader<'_> {
         while let Some(Token::Times(q)) = self.token(end) {
             lead(page, width, KIND_PRODUCT);
             let m = width + 1;
-            let b = self.lay_operand_at(Cursor { at: q, ..c }, page, m);
+            let b = self.lay_operand(Cursor { at: q, ..c }, &mut page[m..]);
             end = b.end;
             width = m + b.width;
         }
