@@ -50,15 +50,15 @@ deep-got p t e h = let z : ◌≡◌ {A = ℕ} 0 1 = cc in omega arith
 
 -- ---- lending
 
-module _ (x : TypeAt) (from : ℕ) (old : List ℕ) where
+module _ {x : TypeAt} {from : ℕ} (old : List ℕ) where
   pub lay-lent-ready : LayReady x from (length old) → LayReady x 0 (length (take (length old - from) (drop from old)))
   lay-lent-ready R =
       let all : length (take (length old - from) (drop from old)) ≡ length old - from = ap length (take_all (length old - from) (drop from old) (omega (arith, length-drop from old))) ∙ length-drop from old in
       record { type = R.type; end = R.end; stands = R.stands; fits = omega (arith, R.fits) }
 
-  pub lay-lent-end : (part new : List ℕ) (e n : ℕ) → from ≤ length old → Laid x 0 (take (length old - from) (drop from old)) part e n → new ≡ take from old ++ (part ++ drop (length old - from) (drop from old)) → Laid x from old new e n
+  pub lay-lent-end : LayReady x from (length old) → (part : List ℕ) (e n : ℕ) → Laid x 0 (take (length old - from) (drop from old)) part e n → Laid x from old (take from old ++ (part ++ drop (length old - from) (drop from old))) e n
   unfolding Laid
-  lay-lent-end part new e n h w g = λ t f st. let z = w t f st in (z.0, splice_lent from _ old part new n h z.1 g)
+  lay-lent-end R part e n w = λ t f st. let z = w t f st in (z.0, splice_lent from _ old part _ n (omega (arith, R.fits)) z.1 refl)
 
 -- ---- moving one place on
 
