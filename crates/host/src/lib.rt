@@ -93,11 +93,7 @@ pub fn typecheck_read_text(
     ensures length_after { length.new ≡ length_of (read_answer text.now table.now page.old) }
     ensures page_after { page.new ≡ read_page text.now table.now page.old }
 {
-    let read = type_text::read(text, table, page);
-    let told = text_entries::tell(read);
-    *place = told.place;
-    *length = told.length;
-    told.number
+    text_entries::typecheck_read_text(text, table, page, place, length)
 }
 
 // Writes the text of a type record into the page from a position on; the length is the text's.
@@ -114,9 +110,5 @@ pub fn typecheck_write_text(
     ensures length_after { length.new ≡ length_of (write_answer bytes.now table.now page.old position) }
     ensures page_after { page.new ≡ write_page bytes.now table.now page.old position }
 {
-    let written = type_text::write(bytes, table, page, position as usize);
-    let told = text_entries::tell(written);
-    *place = told.place;
-    *length = told.length;
-    told.number
+    text_entries::typecheck_write_text(bytes, table, page, position, place, length)
 }

@@ -1,11 +1,10 @@
 -- A table is good exactly if it spells a row of good names (`table-good`, `good-is-table`), and these are the names that the code finds:
 -- every name of a good table is found at its own number (`Usable`), and what is found is a name of the table (`found-is`).
-use Rattle.std.specs.Prelude.{ℕ, zero, suc, ◌+◌, ◌-◌, ◌≤◌, ◌<◌, ◌≡◌, refl, ◌≢◌, Bool, true, false, ◌&&◌, List, [], ◌∷◌, ◌++◌, length, get_or, take, drop}
+use Rattle.std.specs.Prelude.{ℕ, zero, suc, ◌+◌, ◌-◌, ◌≤◌, ◌<◌, ◌≡◌, refl, ◌≢◌, Bool, true, false, ◌&&◌, Option, Some, None, List, [], ◌∷◌, ◌++◌, length, get_or, take, drop}
 use Rattle.std.proofs.Common.{arith, sym, ap, ◌∙◌, length-append, take-append-drop, length-take-le, eq-eqb, le-leb, leb-true, eqb-true}
 use Rattle.std.proofs.Math.Seq.{take-append_seam, drop-append_seam}
 use Rattle.std.proofs.lemmas.Bool.{not-true}
-use Rattle.name_table.specs.declared.Found.{Found}
-use Rattle.name_table.specs.declared.Found.TheVariants.{At, Nothing}
+use Rattle.types.specs.declared.Name.{Name}
 use Rattle.name_table.specs.Words.{between, is_word, same}
 use Rattle.name_table.specs.Table.{boolean, at, shift, seek, find, table_of, Table, names_of, names, is_at, good_name, good_on, good_from, good_table}
 
@@ -47,24 +46,24 @@ find_at (n ∷ ns) w zero h d e = rw e
 find_at (n ∷ ns) w (suc k) h d e =
     rw (d 0 (omega arith), find_at ns w k (omega arith) (λ j g. d (suc j) (omega arith)) e) (ap at (let z : 1 + k ≡ suc k = omega arith in z))
 
-number : Found → ℕ
-number (At k) = k.0
-number Nothing = 0
+number : Option Name → ℕ
+number (Some k) = k.0
+number None = 0
 
 at_one : (j k : ℕ) → at j ≡ at k → j ≡ k
 unfolding number
 at_one j k e = ap number e
 
-shift-at : (f : Found) (k : ℕ) → shift 1 f ≡ at k → (j : ℕ) × (f ≡ at j) × (k ≡ suc j)
+shift-at : (f : Option Name) (k : ℕ) → shift 1 f ≡ at k → (j : ℕ) × (f ≡ at j) × (k ≡ suc j)
 unfolding shift
-shift-at (At j) k e = (j.0, refl, omega (arith, at_one (1 + j.0) k e))
-shift-at Nothing k e = absurd (let y : ◌≡◌ {A = ℕ} 0 1 = cc in omega arith)
+shift-at (Some j) k e = (j.0, refl, omega (arith, at_one (1 + j.0) k e))
+shift-at None k e = absurd (let y : ◌≡◌ {A = ℕ} 0 1 = cc in omega arith)
 
-zero-at : (k j : ℕ) (f : Found) → seek true f ≡ at k → j < k → ⊥
+zero-at : (k j : ℕ) (f : Option Name) → seek true f ≡ at k → j < k → ⊥
 unfolding seek
 zero-at k j f q h = omega (arith, at_one 0 k q)
 
-later-at : (k : ℕ) (f : Found) → seek false f ≡ at k → (j : ℕ) × (f ≡ at j) × (k ≡ suc j)
+later-at : (k : ℕ) (f : Option Name) → seek false f ≡ at k → (j : ℕ) × (f ≡ at j) × (k ≡ suc j)
 unfolding seek
 later-at k f q = shift-at f k q
 
@@ -195,10 +194,10 @@ name-parts : (ns : List (List ℕ)) (k : ℕ) (w : List ℕ) → good_name ns k 
 unfolding good_name
 name-parts ns k w e = let p = both _ _ e in let q = both _ _ p.1 in (p.0, not-true _ q.0, q.1)
 
-is-at : (k : ℕ) (f : Found) → is_at k f ≡ true → f ≡ at k
+is-at : (k : ℕ) (f : Option Name) → is_at k f ≡ true → f ≡ at k
 unfolding is_at
-is-at k (At j) e = ap at (eqb-true j.0 k e)
-is-at k Nothing e = absurd (true-false (sym e))
+is-at k (Some j) e = ap at (eqb-true j.0 k e)
+is-at k None e = absurd (true-false (sym e))
 
 -- and nothing else is taken
 pub good-is-table : (bytes : List ℕ) → good_table bytes ≡ true → Table bytes (names bytes)

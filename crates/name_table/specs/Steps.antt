@@ -1,335 +1,244 @@
--- One step of each loop over names and tables, in the order of the code that follows it.
+-- What the library's calls over words, records and tables come to, in the words of the definitions.
 use Prim.Native.Nat.{ℕ, zero, suc, ◌+◌, ◌-◌, ◌≤◌, ◌<◌}
-use Rattle.std.proofs.Common.{add-one, ◌∙◌, length-drop, drop-cons, drop-drop, take_all}
+use Rattle.std.proofs.Common.{◌∙◌, length-drop}
 use native.Mathlib.Omega.{arith}
-use Rattle.std.specs.Prelude.{◌≡◌, Bool, false, ◌&&◌, not, get_or, take, drop, leb}
+use Rattle.std.specs.Prelude.{◌≡◌, Bool, false, ◌&&◌, ◌||◌, not, Option, Some, None, get_or, take, drop, leb, ltb, min, map, cond}
+use Rattle.std.specs.Char.{is_ascii_alphabetic, is_ascii_alphanumeric}
+use Rattle.std.specs.List.{list_all, position_from, slice_get, enumerate_from}
+use Rattle.std.specs.Cmp.Lexicographic.{pointwise}
 use Rattle.std.proofs.Math.Path.{refl, sym, ap}
 use Rattle.std.proofs.Math.Bool.{true}
 use mathlib.Core.List.{List, [], ◌∷◌}
-use Rattle.std.proofs.Math.ListN.{length, drop_of_length-le}
+use Rattle.std.proofs.Math.ListN.{length}
 use Rattle.std.proofs.Math.Dec.{eqb}
-use borrow.Author.Tests.{lt-leb, le-leb, eq-eqb, ne_eqb, not-true, not-false}
+use Rattle.std.proofs.lemmas.List.{take_min, drop_min, length-take, length-take-le, length-map}
+use borrow.Author.Tests.{lt-ltb, le-ltb, leb-true, leb-false, eqb-true, eqb-false, eq-eqb, ne_eqb}
+use denote.Ref.{Bor}
 use Rattle.types.specs.declared.Name.{Name}
-use Rattle.name_table.specs.declared.Found.{Found}
-use Rattle.name_table.specs.declared.Found.TheVariants.{At, Nothing}
-use Rattle.name_table.specs.declared.Part.TheVariants.{From, Missing}
 use Rattle.name_table.specs.Words.{between, letter, word_byte, all_word, is_word, same}
-use Rattle.name_table.specs.Table.{boolean, at, shift, seek, find, names_of, names, name_end, Located, good_from, good_on, good_name, is_at, good_table}
+use Rattle.name_table.specs.Table.{boolean, at, shift, seek, find, records_of, records, names_of, names, Named, good_from, good_on, good_name, is_at, good_table}
 
 -- ---- bytes of words
 
-module _ (c : ℕ) where
-  pub letter-low : c < 0x41 → letter c ≡ false
-  unfolding letter between
-  letter-low h = rw (lt-leb 0x41 c h, lt-leb 0x61 c (omega arith))
+pub letter_is : (c : ℕ) → is_ascii_alphabetic c ≡ letter c
+unfolding letter between
+letter_is c = refl
 
-  pub letter_upper : 0x41 ≤ c → c ≤ 0x5A → letter c ≡ true
-  unfolding letter between
-  letter_upper h k = rw (le-leb 0x41 c h, le-leb c 0x5A k)
+or_order : (d u l e : Bool) → (((d || u) || l) || e) ≡ ((u || l) || (d || e))
+or_order true true l e = refl
+or_order true false true e = refl
+or_order true false false e = refl
+or_order false true l e = refl
+or_order false false true e = refl
+or_order false false false e = refl
 
-  pub letter_middle : 0x5A < c → c < 0x61 → letter c ≡ false
-  unfolding letter between
-  letter_middle h k = rw (le-leb 0x41 c (omega arith), lt-leb c 0x5A h, lt-leb 0x61 c k)
+pub word_byte_is : (c : ℕ) → (is_ascii_alphanumeric c || eqb c 0x5F) ≡ word_byte c
+unfolding word_byte letter between
+word_byte_is c = or_order (leb 0x30 c && leb c 0x39) (leb 0x41 c && leb c 0x5A) (leb 0x61 c && leb c 0x7A) (eqb c 0x5F)
 
-  pub letter_high : 0x61 ≤ c → letter c ≡ leb c 0x7A
-  unfolding letter between
-  letter_high h = rw (le-leb 0x41 c (omega arith), lt-leb c 0x5A (omega arith), le-leb 0x61 c h)
+pub all_word_is : (w : List ℕ) → list_all word_byte w ≡ all_word w
+unfolding all_word
+all_word_is [] = refl
+all_word_is (c ∷ w) = ap (λ (b : Bool). word_byte c && b) (all_word_is w)
 
-  pub word-letter : letter c ≡ true → word_byte c ≡ true
-  unfolding word_byte
-  word-letter e = rw e
+pub same_is : (a b : List ℕ) → pointwise eqb a b ≡ same a b
+unfolding same
+same_is [] [] = refl
+same_is [] (y ∷ b) = refl
+same_is (x ∷ a) [] = refl
+same_is (x ∷ a) (y ∷ b) = ap (λ (c : Bool). eqb x y && c) (same_is a b)
 
-  pub word_low : letter c ≡ false → c < 0x30 → word_byte c ≡ false
-  unfolding word_byte between
-  word_low e h = rw (e, lt-leb 0x30 c h, ne_eqb c 0x5F (λ q. omega arith))
-
-  pub word_digit : letter c ≡ false → 0x30 ≤ c → c ≤ 0x39 → word_byte c ≡ true
-  unfolding word_byte between
-  word_digit e h k = rw (e, le-leb 0x30 c h, le-leb c 0x39 k)
-
-  pub word_high : letter c ≡ false → 0x39 < c → word_byte c ≡ eqb c 0x5F
-  unfolding word_byte between
-  word_high e h = rw (e, le-leb 0x30 c (omega arith), lt-leb c 0x39 h)
-
--- ---- lists from a place on
-
-pub drop-next : (l : List ℕ) (i : ℕ) → i < length l → drop i l ≡ get_or l i 0 ∷ drop (i + 1) l
-drop-next l i h = rw (add-one i) (drop-cons l i 0 h)
-
-pub is-word-none : (w : List ℕ) → length w ≡ 0 → is_word w ≡ false
+pub is-word-none : (w : List ℕ) → length w ≡ 0 → false ≡ is_word w
 unfolding is_word
 is-word-none [] h = refl
 is-word-none (c ∷ w) h = absurd (omega arith)
 
-pub is-word-first : (w : List ℕ) → 0 < length w → is_word w ≡ (letter (get_or w 0 0) && all_word (drop 1 w))
+pub is-word-some : (w : List ℕ) (c : ℕ) (l : List ℕ) (b : Bool) → w ≡ c ∷ l → b ≡ list_all word_byte l → (letter c && b) ≡ is_word w
 unfolding is_word
-is-word-first [] h = absurd (omega arith)
-is-word-first (c ∷ w) h = refl
+is-word-some w c l b e h = rw (e, h, all_word_is l)
 
-all-word-next : (w : List ℕ) (i : ℕ) → i < length w → all_word (drop i w) ≡ (word_byte (get_or w i 0) && all_word (drop (i + 1) w))
-unfolding all_word
-all-word-next w i h = rw (drop-next w i h)
+-- ---- the records of a table
 
-pub is-word-bad : (w : List ℕ) (b : Bool) → 0 < length w → b ≡ letter (get_or w 0 0) → not b ≡ true → false ≡ is_word w
-is-word-bad w b h e n = sym (is-word-first w h ∙ rw (sym e ∙ not-true b n))
+records_stay : (f g : ℕ) (l : List ℕ) → length l ≤ f → length l ≤ g → records_of f l ≡ records_of g l
+unfolding records_of
+records_stay zero zero l h k = refl
+records_stay zero (suc g) [] h k = refl
+records_stay zero (suc g) (x ∷ l) h k = absurd (omega arith)
+records_stay (suc f) zero [] h k = refl
+records_stay (suc f) zero (x ∷ l) h k = absurd (omega arith)
+records_stay (suc f) (suc g) [] h k = refl
+records_stay (suc f) (suc g) (x ∷ l) h k =
+    let n = length-drop (x - 128) l in
+    ap (λ (r : List (ℕ × List ℕ)). (x, take (x - 128) l) ∷ r) (records_stay f g (drop (x - 128) l) (omega arith) (omega arith))
 
-pub is-word-start : (w : List ℕ) (b : Bool) → 0 < length w → b ≡ letter (get_or w 0 0) → not b ≡ false → is_word w ≡ all_word (drop 1 w)
-is-word-start w b h e n = is-word-first w h ∙ rw (sym e ∙ not-false b n)
+-- the first record: its kind, what it keeps of the rest for its name, and the rest of that
+pub record-first : (l : List ℕ) (k : ℕ) (r name rest : List ℕ) (n : ℕ) → l ≡ k ∷ r → n ≡ min (k - 128) (length r) → name ≡ take n r → rest ≡ drop n r → records l ≡ (k, name) ∷ records rest
+unfolding records_of
+record-first l k r name rest n el en ename erest =
+    let a : name ≡ take (k - 128) r = rw (ename, en) (take_min (k - 128) r) in
+    let b : rest ≡ drop (k - 128) r = rw (erest, en) (drop_min (k - 128) r) in
+    let m = length-drop (k - 128) r in
+    rw (el, a, b) (ap (λ (x : List (ℕ × List ℕ)). (k, take (k - 128) r) ∷ x) (records_stay (length r) (length (drop (k - 128) r)) (drop (k - 128) r) (omega arith) (omega arith)))
 
-module _ (w : List ℕ) (i : ℕ) (inv : is_word w ≡ all_word (drop i w)) where
-  pub is-word-stop : (b : Bool) → i < length w → b ≡ word_byte (get_or w i 0) → not b ≡ true → false ≡ is_word w
-  is-word-stop b h e n = sym (inv ∙ all-word-next w i h ∙ rw (sym e ∙ not-true b n))
+pub records_short : (f : ℕ) (l : List ℕ) → length (records_of f l) ≤ length l
+unfolding records_of
+records_short zero l = omega arith
+records_short (suc f) [] = omega arith
+records_short (suc f) (k ∷ l) = omega (arith, records_short f (drop (k - 128) l), length-drop (k - 128) l)
 
-  pub is-word-on : (b : Bool) → i < length w → b ≡ word_byte (get_or w i 0) → not b ≡ false → is_word w ≡ all_word (drop (i + 1) w)
-  is-word-on b h e n = inv ∙ all-word-next w i h ∙ rw (sym e ∙ not-false b n)
+pub records-none : (l : List ℕ) → length l ≡ 0 → records l ≡ []
+unfolding records_of
+records-none [] h = refl
+records-none (k ∷ l) h = absurd (omega arith)
 
-  pub is-word-end : length w ≤ i → true ≡ is_word w
-  unfolding all_word
-  is-word-end h = sym (inv ∙ rw (drop_of_length-le w h))
+names_taken : (f g : ℕ) (l : List ℕ) → length l ≤ g → map (λ (r : ℕ × List ℕ). r.1) (take f (records_of g l)) ≡ names_of f l
+unfolding names_of records_of
+names_taken zero zero l h = refl
+names_taken zero (suc g) l h = refl
+names_taken (suc f) zero [] h = refl
+names_taken (suc f) zero (k ∷ l) h = absurd (omega arith)
+names_taken (suc f) (suc g) [] h = refl
+names_taken (suc f) (suc g) (k ∷ l) h =
+    let n = length-drop (k - 128) l in
+    ap (λ (x : List (List ℕ)). take (k - 128) l ∷ x) (names_taken f g (drop (k - 128) l) (omega arith))
 
-module _ (a b : List ℕ) (i : ℕ) (inv : same a b ≡ same (drop i a) (drop i b)) where
-  same_next : i < length a → i < length b → same a b ≡ (eqb (get_or a i 0) (get_or b i 0) && same (drop (i + 1) a) (drop (i + 1) b))
-  unfolding same
-  same_next h k = inv ∙ rw (drop-next a i h, drop-next b i k)
+-- the names of a table are those of its first 256 records
+pub names_are : (t : List ℕ) → map (λ (r : ℕ × List ℕ). r.1) (take 256 (records t)) ≡ names t
+names_are t = names_taken 256 (length t) t (omega arith)
 
-  pub same-differ : i < length a → i < length b → (get_or a i 0 ≡ get_or b i 0 → ⊥) → false ≡ same a b
-  same-differ h k n = sym (same_next h k ∙ rw (ne_eqb _ _ n))
+pub names_counted : (t : List ℕ) → length (take 256 (records t)) ≡ length (names t)
+names_counted t = sym (length-map (take 256 (records t)) (λ (r : ℕ × List ℕ). r.1)) ∙ ap length (names_are t)
 
-  pub same-on : i < length a → i < length b → get_or a i 0 ≡ get_or b i 0 → same a b ≡ same (drop (i + 1) a) (drop (i + 1) b)
-  same-on h k n = same_next h k ∙ rw (eq-eqb _ _ n)
-
-  pub same-short : i < length a → length b ≤ i → false ≡ same a b
-  unfolding same
-  same-short h k = sym (inv ∙ rw (drop-next a i h, drop_of_length-le b k))
-
-  pub same_end : length a ≤ i → i ≤ length b → eqb i (length b) ≡ same a b
-  unfolding same
-  same_end h k = sym (inv ∙ rw (drop_of_length-le a h) (go (drop i b) (length-drop i b)))
-    where
-      go : (l : List ℕ) → length l ≡ length b - i → same [] l ≡ eqb i (length b)
-      go [] e = sym (eq-eqb i (length b) (omega arith))
-      go (x ∷ l) e = sym (ne_eqb i (length b) (λ q. omega arith))
-
--- ---- a record of the table
-
-module _ (t : List ℕ) (p : ℕ) (here : p < length t) where
-  pub name-end-none : (k : ℕ) → k ≡ get_or t p 0 → k < 128 → name_end t p (p + 1)
-  name-end-none k e h =
-      let z : get_or t p 0 - 128 ≡ 0 = omega arith in
-      let y : p + 1 - (p + 1) ≡ 0 = omega arith in
-      record { after = omega arith; within = omega arith; name = rw (z, y); rest = rw z }
-
-  pub name-end_cut : (k : ℕ) → k ≡ get_or t p 0 → length t - (p + 1) < k - 128 → name_end t p (length t)
-  name-end_cut k e h =
-      let l = drop (p + 1) t in
-      let a : length l ≤ length t - (p + 1) = omega (arith, length-drop (p + 1) t) in
-      let b : length l ≤ get_or t p 0 - 128 = omega arith in
-      record {
-        after = omega arith;
-        within = omega arith;
-        name = take_all (length t - (p + 1)) l a ∙ sym (take_all (get_or t p 0 - 128) l b);
-        rest = drop_of_length-le t {i = length t} (omega arith) ∙ sym (drop_of_length-le l b);
-      }
-
-  pub name-end-inside : (k : ℕ) → k ≡ get_or t p 0 → 128 ≤ k → k - 128 ≤ length t - (p + 1) → name_end t p (p + 1 + (k - 128))
-  name-end-inside k e h g =
-      let y : p + 1 + (k - 128) - (p + 1) ≡ get_or t p 0 - 128 = omega arith in
-      record {
-        after = omega arith;
-        within = omega arith;
-        name = rw y;
-        rest = sym (drop-drop (k - 128) (p + 1) t) ∙ rw e;
-      }
+-- ---- the number of a word, and the name of a number
 
 shift_zero : (i : ℕ) → shift i (at 0) ≡ at i
 unfolding shift
 shift_zero i = ap at (omega arith)
 
-shift-shift : (i : ℕ) (f : Found) → shift i (shift 1 f) ≡ shift (i + 1) f
+shift-shift : (i : ℕ) (f : Option Name) → shift i (shift 1 f) ≡ shift (i + 1) f
 unfolding shift
-shift-shift i (At k) = ap at (omega arith)
-shift-shift i Nothing = refl
+shift-shift i (Some k) = ap at (omega arith)
+shift-shift i None = refl
 
-names-next : (t : List ℕ) (p i e : ℕ) → i < 256 → p < length t → name_end t p e → names_of (256 - i) (drop p t) ≡ take (e - (p + 1)) (drop (p + 1) t) ∷ names_of (256 - (i + 1)) (drop e t)
-unfolding names_of
-names-next t p i e hi hp n =
-    let f : 256 - i ≡ suc (256 - (i + 1)) = omega arith in
-    rw (f, drop-next t p hp, n.name, n.rest)
-
-names-over : (t : List ℕ) (p i : ℕ) → length t ≤ p → names_of (256 - i) (drop p t) ≡ []
-unfolding names_of
-names-over t p i h = rw (drop_of_length-le t h) (go (256 - i))
-  where
-    go : (f : ℕ) → names_of f [] ≡ []
-    go zero = refl
-    go (suc f) = refl
-
-names-out : (l : List ℕ) (i : ℕ) → 256 ≤ i → names_of (256 - i) l ≡ []
-unfolding names_of
-names-out l i h = let f : 256 - i ≡ 0 = omega arith in rw f
-
-module _ (t w : List ℕ) (p i : ℕ) (inv : find (names t) w ≡ shift i (find (names_of (256 - i) (drop p t)) w)) where
-  pub find-over : length t ≤ p → Nothing ≡ find (names t) w
-  unfolding find shift
-  find-over h = sym (inv ∙ rw (names-over t p i h))
-
-  pub find-out : 256 ≤ i → Nothing ≡ find (names t) w
-  unfolding find shift
-  find-out h = sym (inv ∙ rw (names-out (drop p t) i h))
-
-  module _ (e : ℕ) (b : Bool) (hi : i < 256) (hp : p < length t) (n : name_end t p e) (s : b ≡ same (take (e - (p + 1)) (drop (p + 1) t)) w) where
-    pub find_hit : b ≡ true → at i ≡ find (names t) w
-    unfolding find seek
-    find_hit h = sym (inv ∙ rw (names-next t p i e hi hp n, ← s, h) (shift_zero i))
-
-    pub find_miss : b ≡ false → find (names t) w ≡ shift (i + 1) (find (names_of (256 - (i + 1)) (drop e t)) w)
-    unfolding find seek
-    find_miss h = inv ∙ rw (names-next t p i e hi hp n, ← s, h) (shift-shift i _)
-
-pub find-start : (t w : List ℕ) → find (names t) w ≡ shift 0 (find (names_of (256 - 0) (drop 0 t)) w)
+unshifted : (f : Option Name) → shift 0 f ≡ f
 unfolding shift
-find-start t w = go (find (names t) w)
+unshifted (Some k) = ap at (omega arith)
+unshifted None = refl
+
+-- the number of what stands at a place
+abbrev pub numbered : Option ℕ → Option Name
+numbered (Some k) = at k
+numbered None = None
+
+-- a record has the name w
+abbrev pub has_name : List ℕ → ℕ × List ℕ → Bool
+has_name w r = pointwise eqb r.1 w
+
+found_from : (rs : List (ℕ × List ℕ)) (w : List ℕ) (i : ℕ) → numbered (position_from (has_name w) i rs) ≡ shift i (find (map (λ (r : ℕ × List ℕ). r.1) rs) w)
+unfolding find seek shift
+found_from [] w i = refl
+found_from (r ∷ rs) w i = rw (← same_is r.1 w) (go (has_name w r) (found_from rs w (i + 1)))
   where
-    go : (f : Found) → f ≡ shift 0 f
-    go (At k) = ap at (omega arith)
-    go Nothing = refl
+    go : (b : Bool) → numbered (position_from (has_name w) (i + 1) rs) ≡ shift (i + 1) (find (map (λ (x : ℕ × List ℕ). x.1) rs) w) → numbered (cond b (Some i) (position_from (has_name w) (i + 1) rs)) ≡ shift i (seek b (find (map (λ (x : ℕ × List ℕ). x.1) rs) w))
+    go true h = sym (shift_zero i)
+    go false h = h ∙ sym (shift-shift i (find (map (λ (x : ℕ × List ℕ). x.1) rs) w))
 
--- name n is name n - i of the names that are left
-unfoldable pub Left : List ℕ → ℕ → ℕ → ℕ → Type 0
-Left t n p i =
-    (get_or (names t) n [] ≡ get_or (names_of (256 - i) (drop p t)) (n - i) [])
-    × (length (names t) ≡ i + length (names_of (256 - i) (drop p t))) × (i ≤ n)
+pub found : (t w : List ℕ) (p : Option ℕ) → p ≡ position_from (has_name w) 0 (take 256 (records t)) → numbered p ≡ find (names t) w
+found t w p e = ap numbered e ∙ found_from (take 256 (records t)) w 0 ∙ unshifted _ ∙ ap (λ (ns : List (List ℕ)). find ns w) (names_are t)
 
-pub left-start : (t : List ℕ) (n : ℕ) → Left t n 0 0
-unfolding Left
-left-start t n = (let e : n - 0 ≡ n = omega arith in rw e, omega arith, omega arith)
+named-at : (rs : List (ℕ × List ℕ)) (n : ℕ) (p : ℕ × List ℕ) → Some p ≡ slice_get rs n → (n < length rs) × (p.1 ≡ get_or (map (λ (r : ℕ × List ℕ). r.1) rs) n [])
+named-at [] n p e = absurd (let y : ◌≡◌ {A = ℕ} 0 1 = cc in omega arith)
+named-at (r ∷ rs) zero p e = (omega arith, cc)
+named-at (r ∷ rs) (suc n) p e = let h = named-at rs n p e in (omega (arith, h.0), h.1)
 
-module _ (t : List ℕ) (n p i : ℕ) (inv : Left t n p i) where
-  pub left_over : length t ≤ p → Located t n Missing
-  unfolding Left Located
-  left_over h = omega (arith, ap length (names-over t p i h), inv.1)
+unnamed-at : (rs : List (ℕ × List ℕ)) (n : ℕ) → None ≡ slice_get rs n → length rs ≤ n
+unnamed-at [] n e = omega arith
+unnamed-at (r ∷ rs) zero e = absurd (let y : ◌≡◌ {A = ℕ} 0 1 = cc in omega arith)
+unnamed-at (r ∷ rs) (suc n) e = omega (arith, unnamed-at rs n e)
 
-  pub left_out : 256 ≤ i → Located t n Missing
-  unfolding Left Located
-  left_out h = omega (arith, ap length (names-out (drop p t) i h), inv.1)
+pub named : (t : List ℕ) (n k : ℕ) (w : Bor (List ℕ)) → Some (k, w.now) ≡ slice_get (take 256 (records t)) n → Named t n (Some w)
+unfolding Named
+named t n k w e =
+    let h = named-at (take 256 (records t)) n (k, w.now) e in
+    (omega (arith, h.0, names_counted t), h.1 ∙ ap (λ (ns : List (List ℕ)). get_or ns n []) (names_are t))
 
-  module _ (e : ℕ) (hi : i < 256) (hp : p < length t) (m : name_end t p e) where
-    pub left_hit : i ≡ n → Located t n (From (p + 1) e)
-    unfolding Left Located
-    left_hit h =
-        let z : n - i ≡ 0 = omega arith in
-        let l = names-next t p i e hi hp m in
-        (omega (arith, ap length l, inv.1), m.after, m.within, sym (inv.0 ∙ rw (z, l)))
-
-    pub left_miss : (i ≡ n → ⊥) → Left t n e (i + 1)
-    unfolding Left
-    left_miss h =
-        let less : i < n = ne_lt in
-        let z : n - i ≡ suc (n - (i + 1)) = omega arith in
-        let l = names-next t p i e hi hp m in
-        (inv.0 ∙ rw (l, z), omega (arith, ap length l, inv.1), omega arith)
-      where
-        ne_lt : i < n
-        ne_lt = omega (arith, inv.2, h)
-
--- i names lie before p
-unfoldable pub Counted : List ℕ → ℕ → ℕ → Type 0
-Counted t p i = length (names t) ≡ i + length (names_of (256 - i) (drop p t))
-
-pub counted_start : (t : List ℕ) → Counted t 0 0
-unfolding Counted
-counted_start t = omega arith
-
-module _ (t : List ℕ) (p i : ℕ) (inv : Counted t p i) where
-  pub counted-over : length t ≤ p → i ≡ length (names t)
-  unfolding Counted
-  counted-over h = omega (arith, ap length (names-over t p i h), inv)
-
-  pub counted-out : 256 ≤ i → i ≡ length (names t)
-  unfolding Counted
-  counted-out h = omega (arith, ap length (names-out (drop p t) i h), inv)
-
-  pub counted-on : (e : ℕ) → i < 256 → p < length t → name_end t p e → Counted t e (i + 1)
-  unfolding Counted
-  counted-on e hi hp m = omega (arith, ap length (names-next t p i e hi hp m), inv)
-
--- ---- a good table
-
-module _ (ns : List (List ℕ)) (t : List ℕ) (g : Bool) (p i k : ℕ) (ek : k ≡ get_or t p 0) (inv : g ≡ good_from ns (256 - i) i (drop p t)) (hi : i < 256) (hp : p < length t) where
-  good-next : g ≡ ((between 0x81 0xC0 k && leb (k - 128) (length (drop (p + 1) t))) && (good_name ns i (take (k - 128) (drop (p + 1) t)) && good_from ns (256 - (i + 1)) (i + 1) (drop (k - 128) (drop (p + 1) t))))
-  unfolding good_from good_on
-  good-next =
-      let f : 256 - i ≡ suc (256 - (i + 1)) = omega arith in
-      inv ∙ rw (f, drop-next t p hp, ek)
-
-  pub good-low : k < 0x81 → false ≡ g
-  unfolding between
-  good-low h = sym (good-next ∙ rw (lt-leb 0x81 k h))
-
-  pub good_high : 0xC0 < k → false ≡ g
-  unfolding between
-  good_high h = sym (good-next ∙ rw (le-leb 0x81 k (omega arith), lt-leb k 0xC0 h))
-
-  module _ (l : 0x81 ≤ k) (r : k ≤ 0xC0) where
-    good-kind : between 0x81 0xC0 k ≡ true
-    unfolding between
-    good-kind = rw (le-leb 0x81 k l, le-leb k 0xC0 r)
-
-    pub good_cut : length t - (p + 1) < k - 128 → false ≡ g
-    good_cut h = sym (good-next ∙ rw (good-kind, lt-leb (k - 128) (length (drop (p + 1) t)) (omega (arith, length-drop (p + 1) t))))
-
-    module _ (b : Bool) (w : k - 128 ≤ length t - (p + 1)) (e : ℕ) (ee : e ≡ p + 1 + (k - 128)) (s : b ≡ good_name ns i (take (e - (p + 1)) (drop (p + 1) t))) where
-      good-on : g ≡ (b && good_from ns (256 - (i + 1)) (i + 1) (drop e t))
-      good-on =
-          let z : e - (p + 1) ≡ k - 128 = omega arith in
-          let s' : b ≡ good_name ns i (take (k - 128) (drop (p + 1) t)) = s ∙ rw z in
-          let d : drop e t ≡ drop (k - 128) (drop (p + 1) t) = rw ee (sym (drop-drop (k - 128) (p + 1) t)) in
-          good-next ∙ rw (good-kind, le-leb (k - 128) (length (drop (p + 1) t)) (omega (arith, length-drop (p + 1) t)), d, s')
-
-      pub good-bad : not b ≡ true → false ≡ g
-      good-bad h = sym (good-on ∙ rw (not-true b h))
-
-      pub good-go : not b ≡ false → g ≡ good_from ns (256 - (i + 1)) (i + 1) (drop e t)
-      good-go h = good-on ∙ rw (not-false b h)
-
-module _ (t : List ℕ) where
-  pub good-long : 16384 < length t → false ≡ good_table t
-  unfolding good_table
-  good-long h = sym (rw (lt-leb (length t) 16384 h))
-
-  pub good_start : length t ≤ 16384 → good_table t ≡ good_from (names t) (256 - 0) 0 (drop 0 t)
-  unfolding good_table
-  good_start h = rw (le-leb (length t) 16384 h)
-
-  pub good-many : (p i : ℕ) → good_table t ≡ good_from (names t) (256 - i) i (drop p t) → i ≡ 256 → p < length t → false ≡ good_table t
-  unfolding good_from
-  good-many p i inv h hp = sym (inv ∙ rw (h, drop-next t p hp))
-
-  pub good-end : (p i : ℕ) → good_table t ≡ good_from (names t) (256 - i) i (drop p t) → length t ≤ p → true ≡ good_table t
-  unfolding good_from good_on
-  good-end p i inv h = sym (inv ∙ rw (drop_of_length-le t h) (go (256 - i)))
-    where
-      go : (f : ℕ) → good_from (names t) f i [] ≡ true
-      go zero = refl
-      go (suc f) = refl
+pub unnamed : (t : List ℕ) (n : ℕ) → None ≡ slice_get (take 256 (records t)) n → Named t n None
+unfolding Named
+unnamed t n e = omega (arith, unnamed-at (take 256 (records t)) n e, names_counted t)
 
 -- ---- one name
 
-module _ (ns : List (List ℕ)) (i : ℕ) (w : List ℕ) (b : Bool) (eb : b ≡ is_word w) where
-  pub name_no_word : not b ≡ true → false ≡ good_name ns i w
+eqb_turned : (x y : ℕ) → eqb x y ≡ eqb y x
+eqb_turned x y = go (eqb y x) refl
+  where
+    go : (b : Bool) → eqb y x ≡ b → eqb x y ≡ b
+    go true e = eq-eqb x y (sym (eqb-true y x e))
+    go false e = ne_eqb x y (λ q. eqb-false y x e (sym q))
+
+same_turned : (a b : List ℕ) → same a b ≡ same b a
+unfolding same
+same_turned [] [] = refl
+same_turned [] (y ∷ b) = refl
+same_turned (x ∷ a) [] = refl
+same_turned (x ∷ a) (y ∷ b) = rw (eqb_turned x y, same_turned a b)
+
+pub boolean_is : (w l : List ℕ) → l ≡ boolean → pointwise eqb w l ≡ same boolean w
+boolean_is w l e = rw e (same_is w boolean ∙ same_turned w boolean)
+
+module _ (ns : List (List ℕ)) (i : ℕ) (w : List ℕ) where
+  pub name_no_word : false ≡ is_word w → false ≡ good_name ns i w
   unfolding good_name
-  name_no_word h = sym (rw (sym eb ∙ not-true b h))
+  name_no_word e = rw (← e)
 
-  module _ (c : Bool) (ec : c ≡ same boolean w) (hb : not b ≡ false) where
-    pub name_reserved : c ≡ true → false ≡ good_name ns i w
+  module _ (e : true ≡ is_word w) (l : List ℕ) (b : l ≡ boolean) where
+    pub name_reserved : false ≡ not (pointwise eqb w l) → false ≡ good_name ns i w
     unfolding good_name
-    name_reserved h = sym (rw (sym eb ∙ not-false b hb, sym ec ∙ h))
+    name_reserved h = rw (← e, ← boolean_is w l b, ← h)
 
-    module _ (hc : c ≡ false) (f : Found) (ef : f ≡ find ns w) where
-      pub name-found : (k : Name) → f ≡ At k → eqb k.0 i ≡ good_name ns i w
-      unfolding good_name is_at
-      name-found k h = sym (rw (sym eb ∙ not-false b hb, sym ec ∙ hc, sym ef ∙ h))
+    pub name_placed : true ≡ not (pointwise eqb w l) → good_name ns i w ≡ is_at i (find ns w)
+    unfolding good_name
+    name_placed h = rw (← e, ← boolean_is w l b, ← h)
 
-      pub name-lost : f ≡ Nothing → false ≡ good_name ns i w
-      unfolding good_name is_at
-      name-lost h = sym (rw (sym eb ∙ not-false b hb, sym ec ∙ hc, sym ef ∙ h))
+-- ---- a good table
+
+-- record i of a table whose names are ns is good
+abbrev pub good_record : List (List ℕ) → ℕ × (ℕ × List ℕ) → Bool
+good_record ns p = ltb p.0 256 && (ltb 0x80 p.1.0 && (leb p.1.0 0xC0 && (eqb (length p.1.1) (p.1.0 - 128) && good_name ns p.0 p.1.1)))
+
+whole : (n : ℕ) (l : List ℕ) → eqb (length (take n l)) n ≡ leb n (length l)
+whole n l = go (leb n (length l)) refl
+  where
+    go : (b : Bool) → leb n (length l) ≡ b → eqb (length (take n l)) n ≡ b
+    go true e = eq-eqb _ _ (length-take-le n l (leb-true n (length l) e))
+    go false e = ne_eqb _ _ (λ q. omega (arith, length-take n l, leb-false n (length l) e))
+
+and_order : (a b c d e : Bool) → (((a && b) && c) && (d && e)) ≡ ((a && (b && (c && d))) && e)
+and_order true true true d e = refl
+and_order true true false d e = refl
+and_order true false c d e = refl
+and_order false b c d e = refl
+
+good-first : (ns : List (List ℕ)) (i g k : ℕ) (l : List ℕ) → list_all (good_record ns) (enumerate_from i (records_of (suc g) (k ∷ l))) ≡ ((ltb i 256 && (leb 0x81 k && (leb k 0xC0 && (eqb (length (take (k - 128) l)) (k - 128) && good_name ns i (take (k - 128) l))))) && list_all (good_record ns) (enumerate_from (i + 1) (records_of g (drop (k - 128) l))))
+unfolding records_of
+good-first ns i g k l = refl
+
+good_records : (ns : List (List ℕ)) (f i g : ℕ) (l : List ℕ) → length l ≤ g → i + f ≡ 256 → list_all (good_record ns) (enumerate_from i (records_of g l)) ≡ good_from ns f i l
+unfolding good_from good_on records_of between
+good_records ns zero i zero [] h e = refl
+good_records ns (suc f) i zero [] h e = refl
+good_records ns f i zero (k ∷ l) h e = absurd (omega arith)
+good_records ns zero i (suc g) [] h e = refl
+good_records ns (suc f) i (suc g) [] h e = refl
+good_records ns zero i (suc g) (k ∷ l) h e =
+    let z : ltb i 256 ≡ false = le-ltb i 256 (omega arith) in
+    good-first ns i g k l ∙ rw z
+good_records ns (suc f) i (suc g) (k ∷ l) h e =
+    let n = length-drop (k - 128) l in
+    let z : ltb i 256 ≡ true = lt-ltb i 256 (omega arith) in
+    good-first ns i g k l
+    ∙ rw (z, whole (k - 128) l, good_records ns f (i + 1) g (drop (k - 128) l) (omega arith) (omega arith))
+    (sym (and_order (leb 0x81 k) (leb k 0xC0) (leb (k - 128) (length l)) (good_name ns i (take (k - 128) l)) (good_from ns f (i + 1) (drop (k - 128) l))))
+
+pub good : (t : List ℕ) (b : Bool) → b ≡ list_all (good_record (names t)) (enumerate_from 0 (records t)) → (leb (length t) 16384 && b) ≡ good_table t
+unfolding good_table
+good t b e = ap (λ (c : Bool). leb (length t) 16384 && c) (e ∙ good_records (names t) 256 0 (length t) t (omega arith) refl)

@@ -1,12 +1,11 @@
 -- Name tables. `Table bytes ns` says what a good table is and which names it numbers: that is what to believe.
 -- The rest is what the code computes on any bytes; `specs/Laws` shows that the two agree, both ways.
-use Rattle.std.specs.Prelude.{ℕ, zero, suc, ◌+◌, ◌-◌, ◌≤◌, ◌<◌, ◌≡◌, ◌≢◌, Bool, true, false, ◌&&◌, not, List, [], ◌∷◌, ◌++◌, length, get_or, take, drop, leb, eqb}
+use Rattle.std.specs.Prelude.{ℕ, zero, suc, ◌+◌, ◌-◌, ◌≤◌, ◌<◌, ◌≡◌, ◌≢◌, Bool, true, false, ◌&&◌, not, Option, Some, None, List, [], ◌∷◌, ◌++◌, length, get_or, take, drop, leb, eqb}
+use denote.Ref.{Bor}
 use Rattle.types.specs.Limits.{max_bytes, max_names}
 use Rattle.name_table.specs.Words.{between, is_word, same}
-use Rattle.name_table.specs.declared.Found.{Found}
-use Rattle.name_table.specs.declared.Found.TheVariants.{At, Nothing}
-use Rattle.name_table.specs.declared.Part.{Part}
-use Rattle.name_table.specs.declared.Part.TheVariants.{From, Missing}
+use Rattle.types.specs.declared.Name.{Name}
+use Rattle.name_table.specs.declared.Records.{Records}
 
 -- BOOL: no name of a table
 abbrev pub boolean : List ℕ
@@ -29,6 +28,22 @@ pub record Table (bytes : List ℕ) (ns : List (List ℕ)) : Type 0 where
 
 -- ---- what the code computes of any bytes
 
+-- at most f records: each a kind, and the name behind it
+unfoldable pub records_of : ℕ → List ℕ → List (ℕ × List ℕ)
+records_of zero l = []
+records_of (suc f) [] = []
+records_of (suc f) (k ∷ l) = (k, take (k - 128) l) ∷ records_of f (drop (k - 128) l)
+
+abbrev pub records : List ℕ → List (ℕ × List ℕ)
+records bytes = records_of (length bytes) bytes
+
+-- what the code's records are still to give, and what each of them says
+abbrev pub records_left : Records → List (ℕ × List ℕ)
+records_left it = records it.0.now
+
+abbrev pub read_record : ℕ × Bor (List ℕ) → ℕ × List ℕ
+read_record r = (r.0, r.1.now)
+
 -- the names of at most f records
 unfoldable pub names_of : ℕ → List ℕ → List (List ℕ)
 names_of zero l = []
@@ -39,25 +54,25 @@ abbrev pub names : List ℕ → List (List ℕ)
 names bytes = names_of max_names bytes
 
 -- the number of a word in a row of names: the first that is the same
-abbrev pub at : ℕ → Found
-at k = At (record { 0 = k })
+abbrev pub at : ℕ → Option Name
+at k = Some (record { 0 = k })
 
-unfoldable pub shift : ℕ → Found → Found
-shift i (At k) = at (i + k.0)
-shift i Nothing = Nothing
+unfoldable pub shift : ℕ → Option Name → Option Name
+shift i (Some k) = at (i + k.0)
+shift i None = None
 
-unfoldable pub seek : Bool → Found → Found
+unfoldable pub seek : Bool → Option Name → Option Name
 seek true f = at 0
 seek false f = shift 1 f
 
-unfoldable pub find : List (List ℕ) → List ℕ → Found
-find [] w = Nothing
+unfoldable pub find : List (List ℕ) → List ℕ → Option Name
+find [] w = None
 find (n ∷ ns) w = seek (same n w) (find ns w)
 
 -- name i, in a row whose names are ns, is good, and no earlier one is the same
-unfoldable pub is_at : ℕ → Found → Bool
-is_at i (At k) = eqb k.0 i
-is_at i Nothing = false
+unfoldable pub is_at : ℕ → Option Name → Bool
+is_at i (Some k) = eqb k.0 i
+is_at i None = false
 
 unfoldable pub good_name : List (List ℕ) → ℕ → List ℕ → Bool
 good_name ns i w = is_word w && (not (same boolean w) && is_at i (find ns w))
@@ -77,15 +92,7 @@ good_from ns (suc f) i l = good_on ns (good_from ns f) i l
 unfoldable pub good_table : List ℕ → Bool
 good_table bytes = leb (length bytes) max_bytes && good_from (names bytes) max_names 0 bytes
 
--- where name n stands
-unfoldable pub Located : List ℕ → ℕ → Part → Type 0
-Located bytes n Missing = length (names bytes) ≤ n
-Located bytes n (From a e) =
-    (n < length (names bytes)) × (a ≤ e) × (e ≤ length bytes) × (take (e - a) (drop a bytes) ≡ get_or (names bytes) n [])
-
--- e is where the record at p ends
-pub record name_end (bytes : List ℕ) (p e : ℕ) : Type 0 where
-  pub after : p + 1 ≤ e
-  pub within : e ≤ length bytes
-  pub name : take (e - (p + 1)) (drop (p + 1) bytes) ≡ take (get_or bytes p 0 - 128) (drop (p + 1) bytes)
-  pub rest : drop e bytes ≡ drop (get_or bytes p 0 - 128) (drop (p + 1) bytes)
+-- w is name n, or there is none
+unfoldable pub Named : List ℕ → ℕ → Option (Bor (List ℕ)) → Type 0
+Named bytes n None = length (names bytes) ≤ n
+Named bytes n (Some w) = (n < length (names bytes)) × (w.now ≡ get_or (names bytes) n [])

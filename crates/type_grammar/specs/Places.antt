@@ -5,7 +5,7 @@ use Prim.Native.Nat.{ℕ, zero, suc, ◌+◌, ◌-◌, ◌≤◌, ◌<◌}
 use native.Mathlib.Omega.{arith}
 use Rattle.std.proofs.Math.Path.{◌≡◌, refl, sym, ap}
 use Rattle.std.proofs.Common.{◌∙◌, length-append, length-drop, drop_of_length-le}
-use Rattle.std.specs.Prelude.{Bool, List, [], ◌++◌, drop, get_or, leb}
+use Rattle.std.specs.Prelude.{Bool, List, [], ◌++◌, drop, get_or, leb, Option, Some, None}
 use Rattle.std.proofs.Math.Bool.{true, false}
 use Rattle.std.proofs.Math.ListN.{length}
 use Rattle.std.proofs.Math.Dec.{eqb}
@@ -15,7 +15,7 @@ use Rattle.types.specs.Record.{pick, TypeAt, got, malformed, deep, and_then}
 use Rattle.types.specs.Code.{atom_is}
 use Rattle.name_table.specs.Laws.{Usable, word_some}
 use Rattle.type_grammar.specs.declared.Token.{Token}
-use Rattle.type_grammar.specs.declared.Token.TheVariants.{Leaf, Power, Open, Close, Times, Wrong}
+use Rattle.type_grammar.specs.declared.Token.TheVariants.{Leaf, Power, Open, Close, Times}
 use Rattle.type_grammar.specs.Text.{power_open, bracket_open, bracket_close, times, text_atom}
 use Rattle.type_grammar.specs.Token.{token_of, token_at}
 use Rattle.type_grammar.specs.Parse.{closing, operand_by, times_by, times_on, product_by, operand_of, product_of, ends_at, parse}
@@ -34,13 +34,13 @@ pub data Verdict : Type 0 where
   too_deep : ℕ → Verdict
 
 -- where an operand is due: an atom, or an opening bracket
-unfoldable pub due_by : (ℕ → State → Verdict) → ℕ → ℕ → Token → Verdict
-due_by next b p (Leaf a q) = next q (done b)
-due_by next b p (Power q) = next q (due (suc b))
-due_by next b p (Open q) = next q (due (suc b))
-due_by next b p (Close q) = misfit p
-due_by next b p (Times q) = misfit p
-due_by next b p Wrong = misfit p
+unfoldable pub due_by : (ℕ → State → Verdict) → ℕ → ℕ → Option Token → Verdict
+due_by next b p (Some (Leaf a q)) = next q (done b)
+due_by next b p (Some (Power q)) = next q (due (suc b))
+due_by next b p (Some (Open q)) = next q (due (suc b))
+due_by next b p (Some (Close q)) = misfit p
+due_by next b p (Some (Times q)) = misfit p
+due_by next b p None = misfit p
 
 -- a closing bracket closes an open one
 unfoldable pub close_by : (ℕ → State → Verdict) → ℕ → ℕ → ℕ → Verdict
@@ -53,20 +53,20 @@ end_by n zero p = pick (eqb p n) fits (misfit p)
 end_by n (suc b) p = misfit p
 
 -- after an operand: ×, a closing bracket, or the end
-unfoldable pub done_by : (ℕ → State → Verdict) → ℕ → ℕ → ℕ → Token → Verdict
-done_by next n b p (Times q) = next q (due b)
-done_by next n b p (Close q) = close_by next b p q
-done_by next n b p (Leaf a q) = misfit p
-done_by next n b p (Power q) = misfit p
-done_by next n b p (Open q) = misfit p
-done_by next n b p Wrong = end_by n b p
+unfoldable pub done_by : (ℕ → State → Verdict) → ℕ → ℕ → ℕ → Option Token → Verdict
+done_by next n b p (Some (Times q)) = next q (due b)
+done_by next n b p (Some (Close q)) = close_by next b p q
+done_by next n b p (Some (Leaf a q)) = misfit p
+done_by next n b p (Some (Power q)) = misfit p
+done_by next n b p (Some (Open q)) = misfit p
+done_by next n b p None = end_by n b p
 
-unfoldable pub step_by : (ℕ → State → Verdict) → (ℕ → Token) → ℕ → ℕ → State → Verdict
+unfoldable pub step_by : (ℕ → State → Verdict) → (ℕ → Option Token) → ℕ → ℕ → State → Verdict
 step_by next tok n p (due b) = pick (leb b 32) (due_by next b p (tok p)) (too_deep p)
 step_by next tok n p (done b) = done_by next n b p (tok p)
 
 -- at most f tokens
-unfoldable pub run_by : (ℕ → Token) → ℕ → ℕ → ℕ → State → Verdict
+unfoldable pub run_by : (ℕ → Option Token) → ℕ → ℕ → ℕ → State → Verdict
 run_by tok n zero p st = misfit p
 run_by tok n (suc f) p st = step_by (λ q u. run_by tok n f q u) tok n p st
 
@@ -77,39 +77,39 @@ verdict ns s = run_by (token_at ns s) (length s) (suc (length s)) 0 (due 0)
 -- ---- the number of turns does not matter
 
 -- a token moves on, and stays within n bytes
-unfoldable pub Onward : ℕ → ℕ → Token → Type 0
-Onward n p (Leaf a q) = (p < q) × (q ≤ n)
-Onward n p (Power q) = (p < q) × (q ≤ n)
-Onward n p (Open q) = (p < q) × (q ≤ n)
-Onward n p (Close q) = (p < q) × (q ≤ n)
-Onward n p (Times q) = (p < q) × (q ≤ n)
-Onward n p Wrong = Unit {0}
+unfoldable pub Onward : ℕ → ℕ → Option Token → Type 0
+Onward n p (Some (Leaf a q)) = (p < q) × (q ≤ n)
+Onward n p (Some (Power q)) = (p < q) × (q ≤ n)
+Onward n p (Some (Open q)) = (p < q) × (q ≤ n)
+Onward n p (Some (Close q)) = (p < q) × (q ≤ n)
+Onward n p (Some (Times q)) = (p < q) × (q ≤ n)
+Onward n p None = Unit {0}
 
 module _ (n p : ℕ) (f g : ℕ → State → Verdict) (h : (q : ℕ) (st : State) → p < q → q ≤ n → f q st ≡ g q st) where
-  due-same : (b : ℕ) (k : Token) → Onward n p k → due_by f b p k ≡ due_by g b p k
+  due-same : (b : ℕ) (k : Option Token) → Onward n p k → due_by f b p k ≡ due_by g b p k
   unfolding due_by Onward
-  due-same b (Leaf a q) o = h q (done b) o.0 o.1
-  due-same b (Power q) o = h q (due (suc b)) o.0 o.1
-  due-same b (Open q) o = h q (due (suc b)) o.0 o.1
-  due-same b (Close q) o = refl
-  due-same b (Times q) o = refl
-  due-same b Wrong o = refl
+  due-same b (Some (Leaf a q)) o = h q (done b) o.0 o.1
+  due-same b (Some (Power q)) o = h q (due (suc b)) o.0 o.1
+  due-same b (Some (Open q)) o = h q (due (suc b)) o.0 o.1
+  due-same b (Some (Close q)) o = refl
+  due-same b (Some (Times q)) o = refl
+  due-same b None o = refl
 
   close_same : (b q : ℕ) → p < q → q ≤ n → close_by f b p q ≡ close_by g b p q
   unfolding close_by
   close_same zero q a c = refl
   close_same (suc b) q a c = h q (done b) a c
 
-  done-same : (b : ℕ) (k : Token) → Onward n p k → done_by f n b p k ≡ done_by g n b p k
+  done-same : (b : ℕ) (k : Option Token) → Onward n p k → done_by f n b p k ≡ done_by g n b p k
   unfolding done_by Onward
-  done-same b (Times q) o = h q (due b) o.0 o.1
-  done-same b (Close q) o = close_same b q o.0 o.1
-  done-same b (Leaf a q) o = refl
-  done-same b (Power q) o = refl
-  done-same b (Open q) o = refl
-  done-same b Wrong o = refl
+  done-same b (Some (Times q)) o = h q (due b) o.0 o.1
+  done-same b (Some (Close q)) o = close_same b q o.0 o.1
+  done-same b (Some (Leaf a q)) o = refl
+  done-same b (Some (Power q)) o = refl
+  done-same b (Some (Open q)) o = refl
+  done-same b None o = refl
 
-  step_same : (tok : ℕ → Token) → Onward n p (tok p) → (st : State) → step_by f tok n p st ≡ step_by g tok n p st
+  step_same : (tok : ℕ → Option Token) → Onward n p (tok p) → (st : State) → step_by f tok n p st ≡ step_by g tok n p st
   unfolding step_by
   step_same tok o (due b) = ap (λ (x : Verdict). pick (leb b 32) x (too_deep p)) (due-same b (tok p) o)
   step_same tok o (done b) = done-same b (tok p) o
@@ -120,7 +120,7 @@ then_run (got t e) k = k e
 then_run (malformed p) k = misfit p
 then_run (deep p) k = too_deep p
 
-module _ (tok : ℕ → Token) (n : ℕ) (onward : (p : ℕ) → Onward n p (tok p)) where
+module _ (tok : ℕ → Option Token) (n : ℕ) (onward : (p : ℕ) → Onward n p (tok p)) where
   stable : (f g p : ℕ) (st : State) → n - p < f → n - p < g → run_by tok n f p st ≡ run_by tok n g p st
   unfolding run_by
   stable zero g p st a b = absurd (omega arith)
@@ -140,19 +140,19 @@ module _ (tok : ℕ → Token) (n : ℕ) (onward : (p : ℕ) → Onward n p (tok
   -- ---- the reader follows the rule
 
   -- after a product: no × follows
-  unfoldable pub shut : ℕ → ℕ → Token → Verdict
-  shut b p (Times q) = misfit p
-  shut b p (Close q) = close_by go b p q
-  shut b p (Leaf a q) = misfit p
-  shut b p (Power q) = misfit p
-  shut b p (Open q) = misfit p
-  shut b p Wrong = end_by n b p
+  unfoldable pub shut : ℕ → ℕ → Option Token → Verdict
+  shut b p (Some (Times q)) = misfit p
+  shut b p (Some (Close q)) = close_by go b p q
+  shut b p (Some (Leaf a q)) = misfit p
+  shut b p (Some (Power q)) = misfit p
+  shut b p (Some (Open q)) = misfit p
+  shut b p None = end_by n b p
 
-  times-past : (e q : ℕ) → tok e ≡ Times q → e < q
+  times-past : (e q : ℕ) → tok e ≡ Some (Times q) → e < q
   unfolding Onward
-  times-past e q k = let o : Onward n e (Times q) = rw k at (onward e) in o.0
+  times-past e q k = let o : Onward n e (Some (Times q)) = rw k at (onward e) in o.0
 
-  module _ (over : (p : ℕ) → n ≤ p → tok p ≡ Wrong) where
+  module _ (over : (p : ℕ) → n ≤ p → tok p ≡ None) where
     module _ (b : ℕ) (rd : ℕ → TypeAt) (first : (q : ℕ) → go q (due b) ≡ then_run (rd q) (λ e. go e (done b))) (grows : (q : ℕ) (u : Ty) (f : ℕ) → rd q ≡ got u f → q ≤ f) where
       times-step : (m : ℕ) (t : Ty) (q : ℕ) (x : TypeAt) → rd q ≡ x → n ≤ m + q → ((u : Ty) (f : ℕ) → n ≤ m + f → go f (done b) ≡ then_run (times_by rd tok m (prod t u) f) (λ e. shut b e (tok e))) → then_run x (λ e. go e (done b)) ≡ then_run (and_then x (λ u f. times_by rd tok m (prod t u) f)) (λ e. shut b e (tok e))
       unfolding then_run and_then
@@ -160,16 +160,16 @@ module _ (tok : ℕ → Token) (n : ℕ) (onward : (p : ℕ) → Onward n p (tok
       times-step m t q (malformed p) h l rec = refl
       times-step m t q (deep p) h l rec = refl
 
-      times-on : (more : ℕ → TypeAt) (t : Ty) (e : ℕ) (k : Token) → ((q : ℕ) → k ≡ Times q → go q (due b) ≡ then_run (more q) (λ f. shut b f (tok f))) → tok e ≡ k → done_by go n b e k ≡ then_run (times_on more t e k) (λ f. shut b f (tok f))
+      times-on : (more : ℕ → TypeAt) (t : Ty) (e : ℕ) (k : Option Token) → ((q : ℕ) → k ≡ Some (Times q) → go q (due b) ≡ then_run (more q) (λ f. shut b f (tok f))) → tok e ≡ k → done_by go n b e k ≡ then_run (times_on more t e k) (λ f. shut b f (tok f))
       unfolding done_by times_on then_run shut
-      times-on more t e (Times q) h k = h q refl
-      times-on more t e (Close q) h k = sym (rw k)
-      times-on more t e (Leaf a q) h k = sym (rw k)
-      times-on more t e (Power q) h k = sym (rw k)
-      times-on more t e (Open q) h k = sym (rw k)
-      times-on more t e Wrong h k = sym (rw k)
+      times-on more t e (Some (Times q)) h k = h q refl
+      times-on more t e (Some (Close q)) h k = sym (rw k)
+      times-on more t e (Some (Leaf a q)) h k = sym (rw k)
+      times-on more t e (Some (Power q)) h k = sym (rw k)
+      times-on more t e (Some (Open q)) h k = sym (rw k)
+      times-on more t e None h k = sym (rw k)
 
-      ended : (e : ℕ) → tok e ≡ Wrong → done_by go n b e (tok e) ≡ shut b e (tok e)
+      ended : (e : ℕ) → tok e ≡ None → done_by go n b e (tok e) ≡ shut b e (tok e)
       unfolding done_by shut
       ended e h = rw h
 
@@ -192,14 +192,14 @@ module _ (tok : ℕ → Token) (n : ℕ) (onward : (p : ℕ) → Onward n p (tok
           after (deep p) = refl
 
     -- the closing bracket after a product in brackets
-    close_run : (b : ℕ) (t : Ty) (e : ℕ) (k : Token) → shut (suc b) e k ≡ then_run (closing t e k) (λ f. go f (done b))
+    close_run : (b : ℕ) (t : Ty) (e : ℕ) (k : Option Token) → shut (suc b) e k ≡ then_run (closing t e k) (λ f. go f (done b))
     unfolding shut closing then_run close_by end_by
-    close_run b t e (Close q) = refl
-    close_run b t e (Times q) = refl
-    close_run b t e (Leaf a q) = refl
-    close_run b t e (Power q) = refl
-    close_run b t e (Open q) = refl
-    close_run b t e Wrong = refl
+    close_run b t e (Some (Close q)) = refl
+    close_run b t e (Some (Times q)) = refl
+    close_run b t e (Some (Leaf a q)) = refl
+    close_run b t e (Some (Power q)) = refl
+    close_run b t e (Some (Open q)) = refl
+    close_run b t e None = refl
 
     nested_run : (b : ℕ) (wrap : Ty → Ty) (x : TypeAt) → then_run x (λ e. shut (suc b) e (tok e)) ≡ then_run (and_then x (λ t e. closing (wrap t) e (tok e))) (λ f. go f (done b))
     unfolding then_run and_then
@@ -207,14 +207,14 @@ module _ (tok : ℕ → Token) (n : ℕ) (onward : (p : ℕ) → Onward n p (tok
     nested_run b wrap (malformed p) = refl
     nested_run b wrap (deep p) = refl
 
-    operand-by : (b : ℕ) (inner : ℕ → TypeAt) → ((q : ℕ) → go q (due (suc b)) ≡ then_run (inner q) (λ e. shut (suc b) e (tok e))) → (p : ℕ) (k : Token) → due_by go b p k ≡ then_run (operand_by inner tok p k) (λ e. go e (done b))
+    operand-by : (b : ℕ) (inner : ℕ → TypeAt) → ((q : ℕ) → go q (due (suc b)) ≡ then_run (inner q) (λ e. shut (suc b) e (tok e))) → (p : ℕ) (k : Option Token) → due_by go b p k ≡ then_run (operand_by inner tok p k) (λ e. go e (done b))
     unfolding due_by operand_by then_run
-    operand-by b inner h p (Leaf a q) = refl
-    operand-by b inner h p (Power q) = h q ∙ nested_run b pow (inner q)
-    operand-by b inner h p (Open q) = h q ∙ nested_run b (λ t. t) (inner q)
-    operand-by b inner h p (Close q) = refl
-    operand-by b inner h p (Times q) = refl
-    operand-by b inner h p Wrong = refl
+    operand-by b inner h p (Some (Leaf a q)) = refl
+    operand-by b inner h p (Some (Power q)) = h q ∙ nested_run b pow (inner q)
+    operand-by b inner h p (Some (Open q)) = h q ∙ nested_run b (λ t. t) (inner q)
+    operand-by b inner h p (Some (Close q)) = refl
+    operand-by b inner h p (Some (Times q)) = refl
+    operand-by b inner h p None = refl
 
 -- ---- for the tokens of a text
 
@@ -228,19 +228,19 @@ within : (s : List ℕ) (p : ℕ) (x rest : List ℕ) → 1 ≤ length x → dro
 within s p x rest h e = omega (arith, length-append x rest, ap length e, length-drop p s)
 
 module _ (ns : List (List ℕ)) (u : Usable ns) (s : List ℕ) where
-  moves : (p : ℕ) (k : Token) → Begins ns p (drop p s) k → Onward (length s) p k
+  moves : (p : ℕ) (k : Option Token) → Begins ns p (drop p s) k → Onward (length s) p k
   unfolding Begins Onward
-  moves p (Leaf a q) b = let z = b.1 in let y = text-some ns u b.0 in let w = within s p (text_atom ns (atom_is a)) _ y b.2 in (omega arith, omega arith)
-  moves p (Power q) b = let z = b.0 in let w = within s p power_open _ (omega arith) b.1 in (omega arith, omega arith)
-  moves p (Open q) b = let z = b.0 in let w = within s p bracket_open _ (omega arith) b.1 in (omega arith, omega arith)
-  moves p (Close q) b = let z = b.0 in let w = within s p bracket_close _ (omega arith) b.1 in (omega arith, omega arith)
-  moves p (Times q) b = let z = b.0 in let w = within s p times _ (omega arith) b.1 in (omega arith, omega arith)
-  moves p Wrong b = tt
+  moves p (Some (Leaf a q)) b = let z = b.1 in let y = text-some ns u b.0 in let w = within s p (text_atom ns (atom_is a)) _ y b.2 in (omega arith, omega arith)
+  moves p (Some (Power q)) b = let z = b.0 in let w = within s p power_open _ (omega arith) b.1 in (omega arith, omega arith)
+  moves p (Some (Open q)) b = let z = b.0 in let w = within s p bracket_open _ (omega arith) b.1 in (omega arith, omega arith)
+  moves p (Some (Close q)) b = let z = b.0 in let w = within s p bracket_close _ (omega arith) b.1 in (omega arith, omega arith)
+  moves p (Some (Times q)) b = let z = b.0 in let w = within s p times _ (omega arith) b.1 in (omega arith, omega arith)
+  moves p None b = tt
 
   onward : (p : ℕ) → Onward (length s) p (token_at ns s p)
   onward p = moves p (token_at ns s p) (token_stands ns s p (token_at ns s p) refl)
 
-  nothing : (p : ℕ) → length s ≤ p → token_at ns s p ≡ Wrong
+  nothing : (p : ℕ) → length s ≤ p → token_at ns s p ≡ None
   unfolding token_at token_of
   nothing p h = rw (drop_of_length-le s h)
 
@@ -276,14 +276,14 @@ module _ (ns : List (List ℕ)) (u : Usable ns) (s : List ℕ) where
   judged (malformed p) = misfit p
   judged (deep p) = too_deep p
 
-  other-end : (e : ℕ) (k : Token) → (k ≡ Wrong → eqb e (length s) ≡ false) → shut (token_at ns s) (length s) onward 0 e k ≡ misfit e
+  other-end : (e : ℕ) (k : Option Token) → (k ≡ None → eqb e (length s) ≡ false) → shut (token_at ns s) (length s) onward 0 e k ≡ misfit e
   unfolding shut close_by end_by
-  other-end e (Times q) h = refl
-  other-end e (Close q) h = refl
-  other-end e (Leaf a q) h = refl
-  other-end e (Power q) h = refl
-  other-end e (Open q) h = refl
-  other-end e Wrong h = rw (h refl)
+  other-end e (Some (Times q)) h = refl
+  other-end e (Some (Close q)) h = refl
+  other-end e (Some (Leaf a q)) h = refl
+  other-end e (Some (Power q)) h = refl
+  other-end e (Some (Open q)) h = refl
+  other-end e None h = rw (h refl)
 
   at-end : (e : ℕ) → e ≡ length s → shut (token_at ns s) (length s) onward 0 e (token_at ns s e) ≡ fits
   unfolding shut end_by

@@ -2,7 +2,7 @@
 use Prim.Native.Nat.{ℕ, zero, suc, ◌+◌, ◌-◌, ◌≤◌}
 use Rattle.std.proofs.Common.{add-zero, zero-add, sym, ◌∙◌, eq-eqb}
 use native.Mathlib.Omega.{arith}
-use Rattle.std.specs.Prelude.{◌≡◌, refl, Bool, true, false, ◌&&◌, get_or}
+use Rattle.std.specs.Prelude.{◌≡◌, refl, Bool, true, false, ◌&&◌, get_or, Option, Some, None}
 use Rattle.std.proofs.Math.Path.{ap}
 use mathlib.Core.List.{List, [], ◌∷◌, ◌++◌, append_assoc, append-nil}
 use Rattle.std.proofs.Math.ListN.{length, drop, length-append, length-drop}
@@ -17,7 +17,7 @@ use Rattle.types.specs.declared.Atom.TheVariants as A
 use Rattle.name_table.specs.Words.{between, letter, word_byte, all_word, is_word, same}
 use Rattle.name_table.specs.Laws.{Usable}
 use Rattle.type_grammar.specs.declared.Token.{Token}
-use Rattle.type_grammar.specs.declared.Token.TheVariants.{Leaf, Power, Open, Close, Times, Wrong}
+use Rattle.type_grammar.specs.declared.Token.TheVariants.{Leaf, Power, Open, Close, Times}
 use Rattle.type_grammar.specs.Text.{power_open, bracket_open, bracket_close, times, text_atom}
 use Rattle.type_grammar.specs.Token.{starts, word_of, name_token, word_token, word_token_at, sign_token, token_of, token_at}
 use Rattle.type_grammar.specs.Grammar.{Denotes, leaf, in_power, in_brackets, single, further, Sort, whole, operand}
@@ -63,7 +63,7 @@ atom-is T.bool = refl
 atom-is T.int = refl
 atom-is (T.given n) = refl
 
-pub atom_token : (ns : List (List ℕ)) → Usable ns → {a : Atom} → AtomBelow (length ns) a → (p : ℕ) (rest : List ℕ) → word_of rest ≡ [] → token_of ns p (text_atom ns a ++ rest) ≡ Leaf (code_atom a) (p + length (text_atom ns a))
+pub atom_token : (ns : List (List ℕ)) → Usable ns → {a : Atom} → AtomBelow (length ns) a → (p : ℕ) (rest : List ℕ) → word_of rest ≡ [] → token_of ns p (text_atom ns a ++ rest) ≡ Some (Leaf (code_atom a) (p + length (text_atom ns a)))
 unfolding text_atom token_of word_token_at word_token sign_token word_of letter word_byte between starts same name_token code_atom
 atom_token ns u bool-below p rest h = rw h
 atom_token ns u int-below p rest h = refl
@@ -71,19 +71,19 @@ atom_token ns u (given_below {n} k) p rest h =
     word_token_lem ns p (get_or ns n []) rest (u.word n k) h
     ∙ rw (u.unreserved n k, u.found n k)
 
-pub power_token : (ns : List (List ℕ)) (p : ℕ) (rest : List ℕ) → token_of ns p (power_open ++ rest) ≡ Power (p + 4)
+pub power_token : (ns : List (List ℕ)) (p : ℕ) (rest : List ℕ) → token_of ns p (power_open ++ rest) ≡ Some (Power (p + 4))
 unfolding token_of sign_token letter between starts
 power_token ns p rest = refl
 
-pub open_token : (ns : List (List ℕ)) (p : ℕ) (rest : List ℕ) → token_of ns p (bracket_open ++ rest) ≡ Open (p + 1)
+pub open_token : (ns : List (List ℕ)) (p : ℕ) (rest : List ℕ) → token_of ns p (bracket_open ++ rest) ≡ Some (Open (p + 1))
 unfolding token_of sign_token letter between starts
 open_token ns p rest = refl
 
-pub close_token : (ns : List (List ℕ)) (p : ℕ) (rest : List ℕ) → token_of ns p (bracket_close ++ rest) ≡ Close (p + 1)
+pub close_token : (ns : List (List ℕ)) (p : ℕ) (rest : List ℕ) → token_of ns p (bracket_close ++ rest) ≡ Some (Close (p + 1))
 unfolding token_of sign_token letter between starts
 close_token ns p rest = refl
 
-pub times_token : (ns : List (List ℕ)) (p : ℕ) (rest : List ℕ) → token_of ns p (times ++ rest) ≡ Times (p + 2)
+pub times_token : (ns : List (List ℕ)) (p : ℕ) (rest : List ℕ) → token_of ns p (times ++ rest) ≡ Some (Times (p + 2))
 unfolding token_of sign_token letter between starts
 times_token ns p rest = refl
 
@@ -102,7 +102,7 @@ nothing_ends = refl
 -- ---- places
 
 -- the token at a place
-pub token_here : (ns : List (List ℕ)) (s : List ℕ) (p : ℕ) (l : List ℕ) (k : Token) → drop p s ≡ l → token_of ns p l ≡ k → token_at ns s p ≡ k
+pub token_here : (ns : List (List ℕ)) (s : List ℕ) (p : ℕ) (l : List ℕ) (k : Option Token) → drop p s ≡ l → token_of ns p l ≡ k → token_at ns s p ≡ k
 unfolding token_at
 token_here ns s p l k h e = ap (token_of ns p) h ∙ e
 
@@ -124,34 +124,34 @@ turns-few (in_brackets w) = omega arith
 turns-few (single o) = omega arith
 turns-few (further {x = x} {y = y} w o) = omega (arith, turns-few w, length-append x (times ++ y))
 
-times_close : (rd : ℕ → TypeAt) (tok : ℕ → Token) (n : ℕ) (t : Ty) (e q : ℕ) → tok e ≡ Close q → times_by rd tok n t e ≡ got t e
+times_close : (rd : ℕ → TypeAt) (tok : ℕ → Option Token) (n : ℕ) (t : Ty) (e q : ℕ) → tok e ≡ Some (Close q) → times_by rd tok n t e ≡ got t e
 unfolding times_by times_on
 times_close rd tok zero t e q h = refl
 times_close rd tok (suc n) t e q h = rw h
 
-times-end : (rd : ℕ → TypeAt) (tok : ℕ → Token) (n : ℕ) (t : Ty) (e : ℕ) → tok e ≡ Wrong → times_by rd tok n t e ≡ got t e
+times-end : (rd : ℕ → TypeAt) (tok : ℕ → Option Token) (n : ℕ) (t : Ty) (e : ℕ) → tok e ≡ None → times_by rd tok n t e ≡ got t e
 unfolding times_by times_on
 times-end rd tok zero t e h = refl
 times-end rd tok (suc n) t e h = rw h
 
-times_more : (rd : ℕ → TypeAt) (tok : ℕ → Token) (n : ℕ) (t b : Ty) (e q f : ℕ) → tok e ≡ Times q → rd q ≡ got b f → times_by rd tok (suc n) t e ≡ times_by rd tok n (prod t b) f
+times_more : (rd : ℕ → TypeAt) (tok : ℕ → Option Token) (n : ℕ) (t b : Ty) (e q f : ℕ) → tok e ≡ Some (Times q) → rd q ≡ got b f → times_by rd tok (suc n) t e ≡ times_by rd tok n (prod t b) f
 unfolding times_by times_on and_then
 times_more rd tok n t b e q f h g = rw (h, g)
 
-product-first : (rd : ℕ → TypeAt) (tok : ℕ → Token) (n p : ℕ) (t : Ty) (e : ℕ) → rd p ≡ got t e → product_by rd tok n p ≡ times_by rd tok n t e
+product-first : (rd : ℕ → TypeAt) (tok : ℕ → Option Token) (n p : ℕ) (t : Ty) (e : ℕ) → rd p ≡ got t e → product_by rd tok n p ≡ times_by rd tok n t e
 unfolding product_by and_then
 product-first rd tok n p t e h = rw h
 
 module _ (ns : List (List ℕ)) (s : List ℕ) (d p q : ℕ) where
-  operand-leaf : (a : C.Atom) → token_at ns s p ≡ Leaf a q → operand_of (suc d) ns s p ≡ got (base (atom_is a)) q
+  operand-leaf : (a : C.Atom) → token_at ns s p ≡ Some (Leaf a q) → operand_of (suc d) ns s p ≡ got (base (atom_is a)) q
   unfolding operand_of operand_by
   operand-leaf a h = rw h
 
-  operand-power : (t : Ty) (e f : ℕ) → token_at ns s p ≡ Power q → product_of d ns s q ≡ got t e → token_at ns s e ≡ Close f → operand_of (suc d) ns s p ≡ got (pow t) f
+  operand-power : (t : Ty) (e f : ℕ) → token_at ns s p ≡ Some (Power q) → product_of d ns s q ≡ got t e → token_at ns s e ≡ Some (Close f) → operand_of (suc d) ns s p ≡ got (pow t) f
   unfolding operand_of operand_by product_of and_then closing
   operand-power t e f h g k = rw (h, g, k)
 
-  operand_open : (t : Ty) (e f : ℕ) → token_at ns s p ≡ Open q → product_of d ns s q ≡ got t e → token_at ns s e ≡ Close f → operand_of (suc d) ns s p ≡ got t f
+  operand_open : (t : Ty) (e f : ℕ) → token_at ns s p ≡ Some (Open q) → product_of d ns s q ≡ got t e → token_at ns s e ≡ Some (Close f) → operand_of (suc d) ns s p ≡ got t f
   unfolding operand_of operand_by product_of and_then closing
   operand_open t e f h g k = rw (h, g, k)
 
@@ -208,7 +208,7 @@ module _ (ns : List (List ℕ)) (s : List ℕ) where
       (reads u o (p + length x + 2) rest k r)
       ∙ ap (times_by (operand_of (suc d) ns s) (token_at ns s) n (prod a b)) (omega (arith, length-append x (times ++ y)))
 
-nothing_token : (ns : List (List ℕ)) (p : ℕ) → token_of ns p [] ≡ Wrong
+nothing_token : (ns : List (List ℕ)) (p : ℕ) → token_of ns p [] ≡ None
 unfolding token_of
 nothing_token ns p = refl
 
@@ -218,7 +218,7 @@ unfolding product_of Reads
 whole-is-read ns u d x t w =
     let e : (length x - turns w) + turns w ≡ length x = omega (arith, turns-few w) in
     let r = reads ns x u w (length x - turns w) 0 [] (sym (append-nil x)) nothing_ends in
-    let z = token_here ns x (0 + length x) [] Wrong (ap (λ (n : ℕ). drop n x) (zero-add (length x)) ∙ drop-length x) (nothing_token ns _) in
+    let z = token_here ns x (0 + length x) [] None (ap (λ (n : ℕ). drop n x) (zero-add (length x)) ∙ drop-length x) (nothing_token ns _) in
     ap (λ (n : ℕ). product_by (operand_of (suc d) ns x) (token_at ns x) n 0) (sym e) ∙ r ∙ times-end _ _ _ _ _ z ∙ ap (got t) (zero-add (length x))
 
 -- a text that denotes a type, with at most 32 brackets open, is read to it

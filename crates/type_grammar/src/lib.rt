@@ -1,12 +1,10 @@
 // The tokens of type text, and the fixed byte strings that the reader compares and the writer writes.
 #![tactic(auto)]
 
-ghost use Rattle.std.specs.Prelude.{◌≡◌, ℕ, ◌≤◌, length, drop};
+ghost use Rattle.std.specs.Prelude.{◌≡◌, ℕ, length};
 ghost use Rattle.name_table.specs.Table.{names};
-ghost use Rattle.type_grammar.specs.Token.{starts, word_token_at, token_at};
-ghost use Rattle.type_grammar.specs.Steps.{WordEnd};
+ghost use Rattle.type_grammar.specs.Token.{word_of, word_token_at, token_at};
 
-use name_table::Found;
 use types::Atom;
 
 // ℤ
@@ -28,82 +26,52 @@ pub enum Token {
     Open(usize),
     Close(usize),
     Times(usize),
-    Wrong,
 }
 
-// The text goes on with a sign.
-fn starts_with(text: &[u8], at: usize, sign: &[u8]) -> bool
-    requires { at ≤ length text.now }
-    ensures { result ≡ starts sign.now (drop at text.now) }
+// How long the word is that a text starts with.
+fn word_width(text: &[u8]) -> usize
+    ensures { result ≡ length (word_of text.now) }
 {
-    let mut i = 0;
-    while i < sign.len() {
-        if i < text.len() - at {
-            if sign[i] != text[at + i] {
-                return false;
-            }
-        } else {
-            return false;
-        }
-        i += 1;
-    }
-    true
-}
-
-// Where the word that starts at an offset ends.
-fn word_end(text: &[u8], at: usize) -> usize
-    requires { at ≤ length text.now }
-    ensures { WordEnd text.now at result }
-{
-    let mut e = at;
-    while e < text.len() {
-        if name_table::is_word_byte(text[e]) {
-            e += 1;
-        } else {
-            return e;
-        }
-    }
-    e
+    text.iter()
+        .take_while(|c| name_table::is_word_byte(**c))
+        .count()
 }
 
 // A word: BOOL, or a name of the table.
-fn word_token(table: &[u8], word: &[u8], next: usize) -> Token
+fn word_token(table: &[u8], word: &[u8], next: usize) -> Option<Token>
     ensures { result ≡ word_token_at (names table.now) next word.now }
 {
-    if name_table::same_bytes(&name_table::BOOLEAN, word) {
-        return Token::Leaf(Atom::Bool, next);
+    if word == name_table::BOOLEAN.as_slice() {
+        return Some(Token::Leaf(Atom::Bool, next));
     }
-    match name_table::find_name(table, word) {
-        Found::At(k) => Token::Leaf(Atom::Given(k), next),
-        Found::Nothing => Token::Wrong,
-    }
+    let k = name_table::find_name(table, word)?;
+    Some(Token::Leaf(Atom::Given(k), next))
 }
 
 // The token at an offset; nothing stands past the text's end.
-pub fn token_at(text: &[u8], table: &[u8], at: usize) -> Token
+pub fn token_at(text: &[u8], table: &[u8], at: usize) -> Option<Token>
     ensures { result ≡ token_at (names table.now) text.now at }
 {
-    if at >= text.len() {
-        return Token::Wrong;
+    let rest = text.get(at..)?;
+    let first = *rest.first()?;
+    if name_table::is_letter(first) {
+        let width = word_width(rest);
+        return word_token(table, &rest[..width], at + width);
     }
-    if name_table::is_letter(text[at]) {
-        let e = word_end(text, at);
-        return word_token(table, &text[at..e], e);
+    if rest.starts_with(&INTEGER) {
+        return Some(Token::Leaf(Atom::Integer, at + INTEGER.len()));
     }
-    if starts_with(text, at, &INTEGER) {
-        return Token::Leaf(Atom::Integer, at + 3);
+    if rest.starts_with(&POWER) {
+        return Some(Token::Power(at + POWER.len()));
     }
-    if starts_with(text, at, &POWER) {
-        return Token::Power(at + 4);
+    if rest.starts_with(&OPEN) {
+        return Some(Token::Open(at + OPEN.len()));
     }
-    if starts_with(text, at, &OPEN) {
-        return Token::Open(at + 1);
+    if rest.starts_with(&CLOSE) {
+        return Some(Token::Close(at + CLOSE.len()));
     }
-    if starts_with(text, at, &CLOSE) {
-        return Token::Close(at + 1);
+    if rest.starts_with(&TIMES) {
+        return Some(Token::Times(at + TIMES.len()));
     }
-    if starts_with(text, at, &TIMES) {
-        return Token::Times(at + 2);
-    }
-    Token::Wrong
+    None
 }

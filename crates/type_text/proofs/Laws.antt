@@ -1,66 +1,65 @@
 -- What the remaining arm of a match knows of a token.
-use Rattle.std.proofs.Common.{ℕ, refl, Bool, arith, [], ◌∷◌, ◌≡◌, ⊎_elim}
+use Rattle.std.proofs.Common.{ℕ, ◌≤◌, refl, arith, [], ◌∷◌, ◌≡◌, ⊎_elim, Option, Some, Ok, Err, ap, ◌∙◌}
 use types.Run.{OneOf}
 use denote.Enum.Declared.{tag_of}
-use Rattle.type_grammar.specs.contracts.Token.{the_type}
-use Rattle.type_grammar.specs.declared.Token.{Token}
-use Rattle.type_grammar.specs.declared.Token.TheVariants.{Leaf, Power, Open, Close, Times, Wrong}
-use Rattle.type_text.specs.declared.page.Room.{Room}
-use Rattle.type_text.specs.declared.reader.Scanned.{Scanned}
-use Rattle.type_text.specs.declared.reader.Scanned.TheVariants as S
 use Rattle.types.specs.Ty.{Ty}
 use Rattle.types.specs.Record.{TypeAt, got, malformed}
+use Rattle.types.specs.declared.Fault.TheVariants as F
+use Rattle.type_grammar.specs.contracts.Token.{the_type}
+use Rattle.type_grammar.specs.declared.Token.{Token}
+use Rattle.type_grammar.specs.declared.Token.TheVariants.{Leaf, Power, Open, Close, Times}
 use Rattle.type_grammar.specs.Parse.{operand_by, times_on}
-use Rattle.type_text.specs.declared.Fault.TheVariants as F
-use Rattle.type_text.specs.Scan.{closed_by, scan_on}
+use Rattle.type_text.specs.Scan.{Scanned, closed_at, scan_on}
 
-not_close : OneOf (0 ∷ 1 ∷ 2 ∷ 4 ∷ 5 ∷ []) 3 → ⊥
-not_close = ⊎_elim (λ h. omega arith) (⊎_elim (λ h. omega arith) (⊎_elim (λ h. omega arith) (⊎_elim (λ h. omega arith) (λ h. omega arith))))
+not_close : OneOf (0 ∷ 1 ∷ 2 ∷ 4 ∷ []) 3 → ⊥
+not_close = ⊎_elim (λ h. omega arith) (⊎_elim (λ h. omega arith) (⊎_elim (λ h. omega arith) (λ h. omega arith)))
 
-pub closed-other : (lifts : Bool) (e d : ℕ) (r : Room) (k : Token) → OneOf (0 ∷ 1 ∷ 2 ∷ 4 ∷ 5 ∷ []) (tag_of the_type k) → closed_by lifts e d r k ≡ S.Stop (F.Malformed e)
-unfolding closed_by
-closed-other lifts e d r (Leaf a q) h = refl
-closed-other lifts e d r (Power q) h = refl
-closed-other lifts e d r (Open q) h = refl
-closed-other lifts e d r (Close q) h = absurd (not_close h)
-closed-other lifts e d r (Times q) h = refl
-closed-other lifts e d r Wrong h = refl
+closed_by : (e : ℕ) (k : Token) → OneOf (0 ∷ 1 ∷ 2 ∷ 4 ∷ []) (tag_of the_type k) → closed_at e (Some k) ≡ Err (F.Malformed e)
+unfolding closed_at
+closed_by e (Leaf a q) h = refl
+closed_by e (Power q) h = refl
+closed_by e (Open q) h = refl
+closed_by e (Close q) h = absurd (not_close h)
+closed_by e (Times q) h = refl
 
-not_times : OneOf (0 ∷ 1 ∷ 2 ∷ 3 ∷ 5 ∷ []) 4 → ⊥
-not_times = ⊎_elim (λ h. omega arith) (⊎_elim (λ h. omega arith) (⊎_elim (λ h. omega arith) (⊎_elim (λ h. omega arith) (λ h. omega arith))))
+pub closed-other : (e : ℕ) (o : Option Token) (k : Token) → OneOf (0 ∷ 1 ∷ 2 ∷ 4 ∷ []) (tag_of the_type k) → o ≡ Some k → closed_at e o ≡ Err (F.Malformed e)
+closed-other e o k h q = ap (closed_at e) q ∙ closed_by e k h
 
-pub times_else : (e d : ℕ) (r : Room) (k : Token) → OneOf (0 ∷ 1 ∷ 2 ∷ 3 ∷ 5 ∷ []) (tag_of the_type k) → (next : ℕ → Scanned) → scan_on next e d r k ≡ S.Type e d r
+not_times : OneOf (0 ∷ 1 ∷ 2 ∷ 3 ∷ []) 4 → ⊥
+not_times = ⊎_elim (λ h. omega arith) (⊎_elim (λ h. omega arith) (⊎_elim (λ h. omega arith) (λ h. omega arith)))
+
+scan_by : (e d : ℕ) (r : Option ℕ) (k : Token) → OneOf (0 ∷ 1 ∷ 2 ∷ 3 ∷ []) (tag_of the_type k) → (next : ℕ → Scanned) → scan_on next e d r (Some k) ≡ Ok (e, d, r)
 unfolding scan_on
-times_else e d r (Leaf a q) h next = refl
-times_else e d r (Power q) h next = refl
-times_else e d r (Open q) h next = refl
-times_else e d r (Close q) h next = refl
-times_else e d r (Times q) h next = absurd (not_times h)
-times_else e d r Wrong h next = refl
+scan_by e d r (Leaf a q) h next = refl
+scan_by e d r (Power q) h next = refl
+scan_by e d r (Open q) h next = refl
+scan_by e d r (Close q) h next = refl
+scan_by e d r (Times q) h next = absurd (not_times h)
 
-late : (n : ℕ) → n ≡ 0 → OneOf (3 ∷ 4 ∷ 5 ∷ []) n → ⊥
-late n z = ⊎_elim (λ h. omega arith) (⊎_elim (λ h. omega arith) (λ h. omega arith))
+pub times_else : (e d : ℕ) (r : Option ℕ) (o : Option Token) (k : Token) → OneOf (0 ∷ 1 ∷ 2 ∷ 3 ∷ []) (tag_of the_type k) → o ≡ Some k → (next : ℕ → Scanned) → scan_on next e d r o ≡ Ok (e, d, r)
+times_else e d r o k h q next = ap (scan_on next e d r) q ∙ scan_by e d r k h next
 
-late_1 : (n : ℕ) → n ≡ 1 → OneOf (3 ∷ 4 ∷ 5 ∷ []) n → ⊥
-late_1 n z = ⊎_elim (λ h. omega arith) (⊎_elim (λ h. omega arith) (λ h. omega arith))
-
-late_2 : (n : ℕ) → n ≡ 2 → OneOf (3 ∷ 4 ∷ 5 ∷ []) n → ⊥
-late_2 n z = ⊎_elim (λ h. omega arith) (⊎_elim (λ h. omega arith) (λ h. omega arith))
-
-pub operand_else : (inner : ℕ → TypeAt) (tok : ℕ → Token) (p : ℕ) (k : Token) → OneOf (3 ∷ 4 ∷ 5 ∷ []) (tag_of the_type k) → operand_by inner tok p k ≡ malformed p
-unfolding operand_by
-operand_else inner tok p (Leaf a q) h = absurd (late 0 refl h)
-operand_else inner tok p (Power q) h = absurd (late_1 1 refl h)
-operand_else inner tok p (Open q) h = absurd (late_2 2 refl h)
-operand_else inner tok p (Close q) h = refl
-operand_else inner tok p (Times q) h = refl
-operand_else inner tok p Wrong h = refl
-
-pub times-over : (e : ℕ) (k : Token) → OneOf (0 ∷ 1 ∷ 2 ∷ 3 ∷ 5 ∷ []) (tag_of the_type k) → (more : ℕ → TypeAt) (u : Ty) → times_on more u e k ≡ got u e
+times_by : (e : ℕ) (k : Token) → OneOf (0 ∷ 1 ∷ 2 ∷ 3 ∷ []) (tag_of the_type k) → (more : ℕ → TypeAt) (u : Ty) → times_on more u e (Some k) ≡ got u e
 unfolding times_on
-times-over e (Leaf a q) h more u = refl
-times-over e (Power q) h more u = refl
-times-over e (Open q) h more u = refl
-times-over e (Close q) h more u = refl
-times-over e (Times q) h more u = absurd (not_times h)
-times-over e Wrong h more u = refl
+times_by e (Leaf a q) h more u = refl
+times_by e (Power q) h more u = refl
+times_by e (Open q) h more u = refl
+times_by e (Close q) h more u = refl
+times_by e (Times q) h more u = absurd (not_times h)
+
+pub times-over : (e : ℕ) (o : Option Token) (k : Token) → OneOf (0 ∷ 1 ∷ 2 ∷ 3 ∷ []) (tag_of the_type k) → o ≡ Some k → (more : ℕ → TypeAt) (u : Ty) → times_on more u e o ≡ got u e
+times-over e o k h q more u = ap (times_on more u e) q ∙ times_by e k h more u
+
+late : (n : ℕ) → n ≤ 2 → OneOf (3 ∷ 4 ∷ []) n → ⊥
+late n z = ⊎_elim (λ h. omega arith) (λ h. omega arith)
+
+operand_on : (inner : ℕ → TypeAt) (tok : ℕ → Option Token) (p : ℕ) (k : Token) → OneOf (3 ∷ 4 ∷ []) (tag_of the_type k) → operand_by inner tok p (Some k) ≡ malformed p
+unfolding operand_by
+operand_on inner tok p (Leaf a q) h = absurd (late 0 (omega arith) h)
+operand_on inner tok p (Power q) h = absurd (late 1 (omega arith) h)
+operand_on inner tok p (Open q) h = absurd (late 2 (omega arith) h)
+operand_on inner tok p (Close q) h = refl
+operand_on inner tok p (Times q) h = refl
+
+pub operand_else : (inner : ℕ → TypeAt) (tok : ℕ → Option Token) (p : ℕ) (o : Option Token) (k : Token) → OneOf (3 ∷ 4 ∷ []) (tag_of the_type k) → o ≡ Some k → operand_by inner tok p o ≡ malformed p
+operand_else inner tok p o k h q = ap (operand_by inner tok p) q ∙ operand_on inner tok p k h

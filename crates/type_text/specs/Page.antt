@@ -1,19 +1,15 @@
 -- A lent page: what is left of it, and what putting bytes into it does.
 -- `Splice` says that exactly the bytes x were put, from a place on, and that no other byte changed.
-use Rattle.std.specs.Prelude.{ℕ, ◌+◌, ◌-◌, ◌≤◌, ◌<◌, ◌≡◌, refl, Bool, true, false, List, [], ◌∷◌, ◌++◌, length, get_or, take, drop, set, leb}
-use Rattle.std.proofs.Common.{add-one, arith, ap, ◌∙◌, append_assoc, append-nil, drop_of_length-le, length-drop, length-append, take-append-drop, drop-drop, take-suc, take_all, take_at, drop_at, length-take-le}
+use Rattle.std.specs.Prelude.{ℕ, ◌+◌, ◌-◌, ◌≤◌, ◌≡◌, refl, Bool, true, false, List, [], ◌++◌, length, take, drop, leb, Option, Some, None}
+use Rattle.std.proofs.Common.{arith, ap, ◌∙◌, append_assoc, append-nil, drop_of_length-le, length-drop, length-append, drop-drop, take_all, take_at, drop_at, length-take-le}
 use Rattle.std.proofs.Math.Path.{sym}
-use Rattle.std.proofs.lemmas.List.{set_at}
-use Rattle.std.proofs.Math.Seq.{take-length}
 use borrow.Author.Tests.{le-leb, lt-leb, leb-true, leb-false}
+use Rattle.std.specs.Option.{SomeIff, is_some}
 use Rattle.types.specs.Record.{pick}
-use Rattle.types.specs.Steps.{drop-next}
-use Rattle.type_text.specs.declared.page.Room.{Room}
-use Rattle.type_text.specs.declared.page.Room.TheVariants.{Left, Over}
 
-unfoldable pub spend_of : Room → ℕ → Room
-spend_of (Left k) n = pick (leb n k) (Left (k - n)) Over
-spend_of Over n = Over
+unfoldable pub spend_of : Option ℕ → ℕ → Option ℕ
+spend_of (Some k) n = pick (leb n k) (Some (k - n)) None
+spend_of None n = None
 
 -- x stands in a page from a place on, and nothing else was changed
 pub record Splice (from : ℕ) (x old new : List ℕ) (n : ℕ) : Type 0 where
@@ -23,65 +19,53 @@ pub record Splice (from : ℕ) (x old new : List ℕ) (n : ℕ) : Type 0 where
 
 -- ---- room
 
-module _ (room : Room) (n : ℕ) where
-  pub spend_over : room ≡ Over → Over ≡ spend_of room n
-  unfolding spend_of
-  spend_over e = sym (rw e)
+pub spend_none : (room : Option ℕ) (n : ℕ) → room ≡ None → None ≡ spend_of room n
+unfolding spend_of
+spend_none room n e = sym (rw e)
 
-  module _ (k : ℕ) (e : room ≡ Left k) where
-    pub spend_left : n ≤ k → Left (k - n) ≡ spend_of room n
-    unfolding spend_of
-    spend_left h = sym (rw (e, le-leb n k h))
-
-    pub spend_past : k < n → Over ≡ spend_of room n
-    unfolding spend_of
-    spend_past h = sym (rw (e, lt-leb n k h))
+pub spend_some : (room : Option ℕ) (n k : ℕ) (r : Option ℕ) → room ≡ Some k → SomeIff r (n ≤ k) (k - n) → r ≡ spend_of room n
+unfolding spend_of
+spend_some room n k None e h = sym (rw (e, lt-leb n k (omega (arith, h))))
+spend_some room n k (Some j) e h = sym (rw (e, le-leb n k h.0, ← h.1))
 
 -- spending twice is spending the sum
-pub spend_twice : (room : Room) (a b : ℕ) → spend_of (spend_of room a) b ≡ spend_of room (a + b)
+pub spend_twice : (room : Option ℕ) (a b : ℕ) → spend_of (spend_of room a) b ≡ spend_of room (a + b)
 unfolding spend_of
-spend_twice Over a b = refl
-spend_twice (Left k) a b = go (leb a k) refl (leb b (k - a)) refl
+spend_twice None a b = refl
+spend_twice (Some k) a b = go (leb a k) refl (leb b (k - a)) refl
   where
-    go : (x : Bool) → leb a k ≡ x → (y : Bool) → leb b (k - a) ≡ y → spend_of (pick (leb a k) (Left (k - a)) Over) b ≡ pick (leb (a + b) k) (Left (k - (a + b))) Over
+    go : (x : Bool) → leb a k ≡ x → (y : Bool) → leb b (k - a) ≡ y → spend_of (pick (leb a k) (Some (k - a)) None) b ≡ pick (leb (a + b) k) (Some (k - (a + b))) None
     go true h true g =
         let e : k - a - b ≡ k - (a + b) = omega arith in
         rw (h, g, le-leb (a + b) k (omega (arith, leb-true a k h, leb-true b (k - a) g)), e)
     go true h false g = rw (h, g, lt-leb (a + b) k (omega (arith, leb-true a k h, leb-false b (k - a) g)))
     go false h y g = rw (h, lt-leb (a + b) k (omega (arith, leb-false a k h)))
 
-pub spent-over : (k n : ℕ) → Over ≡ spend_of (Left k) n → leb n k ≡ false
+pub none_is : (o : Option ℕ) → is_some o ≡ false → o ≡ None
+none_is None e = refl
+none_is (Some k) e = absurd (let z : ◌≡◌ {A = ℕ} 0 1 = cc in omega arith)
+
+pub some_is : (o : Option ℕ) → is_some o ≡ true → (k : ℕ) × (o ≡ Some k)
+some_is None e = absurd (let z : ◌≡◌ {A = ℕ} 0 1 = cc in omega arith)
+some_is (Some k) e = (k, refl)
+
+pub spent-over : (k n : ℕ) → None ≡ spend_of (Some k) n → leb n k ≡ false
 unfolding spend_of
 spent-over k n e = go (leb n k) e
   where
-    go : (b : Bool) → Over ≡ pick b (Left (k - n)) Over → b ≡ false
+    go : (b : Bool) → None ≡ pick b (Some (k - n)) None → b ≡ false
     go true h = absurd (let z : ◌≡◌ {A = ℕ} 0 1 = cc in omega arith)
     go false h = refl
 
-pub spent-left : (k n j : ℕ) → Left j ≡ spend_of (Left k) n → leb n k ≡ true
+pub spent-left : (k n j : ℕ) → Some j ≡ spend_of (Some k) n → leb n k ≡ true
 unfolding spend_of
 spent-left k n j e = go (leb n k) e
   where
-    go : (b : Bool) → Left j ≡ pick b (Left (k - n)) Over → b ≡ true
+    go : (b : Bool) → Some j ≡ pick b (Some (k - n)) None → b ≡ true
     go true h = refl
     go false h = absurd (let z : ◌≡◌ {A = ℕ} 0 1 = cc in omega arith)
 
 -- ---- putting bytes into a page
-
-pub copy_next : (d s now : List ℕ) (from i : ℕ) → from + length s ≤ length d → i < length s → now ≡ take from d ++ (take i s ++ drop (from + i) d) → set now (from + i) (get_or s i 0) ≡ take from d ++ (take (i + 1) s ++ drop (from + (i + 1)) d)
-copy_next d s now from i room h e =
-    let p : length (take from d ++ take i s) ≡ from + i = length-append (take from d) (take i s) ∙ omega (arith, length-take-le from d (omega arith), length-take-le i s (omega arith)) in
-    let q : from + (i + 1) ≡ from + i + 1 = omega arith in
-    rw (e, drop-next d (from + i) (omega arith), ← append_assoc (take from d) (take i s) (get_or d (from + i) 0 ∷ drop (from + i + 1) d), set_at (take from d ++ take i s) (get_or d (from + i) 0) (drop (from + i + 1) d) (get_or s i 0) (from + i) p, q, add-one i, take-suc s i 0 h)
-    (append_assoc (take from d) (take i s) (get_or s i 0 ∷ drop (from + i + 1) d) ∙ ap (λ (l : List ℕ). take from d ++ l) (sym (append_assoc (take i s) (get_or s i 0 ∷ []) (drop (from + i + 1) d))))
-
-pub copy_start : (d s : List ℕ) (from : ℕ) → d ≡ take from d ++ (take 0 s ++ drop (from + 0) d)
-copy_start d s from = let e : from + 0 ≡ from = omega arith in rw e (sym (take-append-drop from d))
-
-pub copy_end : (d s now : List ℕ) (from i : ℕ) → from + length s ≤ length d → length s ≤ i → i ≤ length s → now ≡ take from d ++ (take i s ++ drop (from + i) d) → Splice from s d now i
-copy_end d s now from i room h k e =
-    let q : i ≡ length s = omega arith in
-    record { count = q; room = room; page = e ∙ rw (q, take-length s) }
 
 module _ (from : ℕ) (x old new : List ℕ) (n : ℕ) (s : Splice from x old new n) where
   pub splice_as : (y : List ℕ) → x ≡ y → Splice from y old new n

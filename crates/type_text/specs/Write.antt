@@ -1,5 +1,5 @@
 -- The writer's entry, step by step.
-use Rattle.std.specs.Prelude.{ℕ, ◌-◌, ◌≤◌, ◌<◌, ◌≡◌, Bool, true, false, not, List, length, leb}
+use Rattle.std.specs.Prelude.{◌++◌, take, drop, ℕ, ◌-◌, ◌≤◌, ◌<◌, ◌≡◌, Bool, true, false, not, List, length, leb, Option, Some, Ok, Err}
 use Rattle.std.proofs.Common.{arith, ◌∙◌}
 use Rattle.std.proofs.Math.Path.{refl, sym, ap}
 use borrow.Author.Tests.{eq-eqb, ne_eqb, le-leb, lt-leb, leb-true, not-true, not-false}
@@ -7,39 +7,38 @@ use Rattle.types.specs.Ty.{Ty}
 use Rattle.types.specs.Record.{TypeAt, got, malformed, deep, type_at}
 use Rattle.name_table.specs.Table.{names, good_table}
 use Rattle.type_grammar.specs.Text.{text}
-use Rattle.type_text.specs.declared.Fault.{Fault}
-use Rattle.type_text.specs.declared.Fault.TheVariants as F
-use Rattle.type_text.specs.declared.page.Room.{Room}
-use Rattle.type_text.specs.declared.page.Room.TheVariants.{Left, Over}
-use Rattle.type_text.specs.declared.writer.Measured.{Measured}
-use Rattle.type_text.specs.declared.writer.Measured.TheVariants as M
-use Rattle.type_text.specs.declared.Answer.{Answer}
-use Rattle.type_text.specs.declared.Answer.TheVariants.{Done, Bad, Malformed, NoRoom}
-use Rattle.type_text.specs.Page.{spend_of, spent-over, spent-left}
-use Rattle.type_text.specs.Measure.{text_in, in_false, measured_of}
-use Rattle.type_text.specs.Put.{Ready, Written}
-use Rattle.type_text.specs.Answer.{answer_of, written_by, write_answer, written_page, write_page}
+use Rattle.types.specs.declared.Fault.{Fault}
+use Rattle.types.specs.declared.Fault.TheVariants as F
+use Rattle.type_text.specs.declared.writer.Side.{Side}
+use Rattle.type_text.specs.declared.writer.Side.TheVariants.{Plain}
+use Rattle.type_text.specs.declared.Refusal.TheVariants.{Bad, At, NoRoom}
+use Rattle.std.specs.Option.{is_some}
+use Rattle.type_text.specs.Page.{spend_of, spent-over, spent-left, none_is, some_is}
+use Rattle.type_text.specs.Measure.{Measured, text_in, in_plain, measured_of}
+use Rattle.type_text.specs.Put.{Ready, Written, lent-end}
+use Rattle.type_text.specs.Answer.{Answer, written_by, write_answer, written_page, write_page}
 
 -- a refusal leaves the page as it was
-fault-page : (ns : List (List ℕ)) (page : List ℕ) (pos : ℕ) (f : Fault) (x : TypeAt) → page ≡ written_page ns page pos (answer_of f) x
-unfolding answer_of written_page
+fault-page : (ns : List (List ℕ)) (page : List ℕ) (pos : ℕ) (f : Fault ℕ) (x : TypeAt) → page ≡ written_page ns page pos (Err (At f)) x
+unfolding written_page
 fault-page ns page pos (F.Malformed p) x = refl
-fault-page ns page pos (F.Deep p) x = refl
+fault-page ns page pos (F.Beyond p) x = refl
 
 -- what measuring found stands there
-measured_type : (ns : List (List ℕ)) (room : Room) (x : TypeAt) (e : ℕ) (more : Room) → M.Type e more ≡ measured_of ns false room x → (t : Ty) × (x ≡ got t e) × (more ≡ spend_of room (length (text ns t)))
+measured_type : (ns : List (List ℕ)) (room : Option ℕ) (x : TypeAt) (e : ℕ) (more : Option ℕ) → Ok (e, more) ≡ measured_of ns Plain room x → (t : Ty) × (x ≡ got t e) × (more ≡ spend_of room (length (text ns t)))
 unfolding measured_of
 measured_type ns room (malformed p) e more h = absurd (let z : ◌≡◌ {A = ℕ} 0 1 = cc in omega arith)
 measured_type ns room (deep p) e more h = absurd (let z : ◌≡◌ {A = ℕ} 0 1 = cc in omega arith)
 measured_type ns room (got t f) e more h =
-    (t, ap (got t) (let i : f ≡ e = cc in i), (let j : more ≡ spend_of room (length (text_in ns false t)) = cc in j) ∙ ap (λ (x : List ℕ). spend_of room (length x)) (sym (in_false ns t)))
+    let o : (e, more) ≡ (f, spend_of room (length (text_in ns Plain t))) = cc in
+    (t, ap (got t) (ap (λ (x : ℕ × Option ℕ). x.0) (sym o)), ap (λ (x : ℕ × Option ℕ). x.1) o ∙ ap (λ (x : List ℕ). spend_of room (length x)) (sym (in_plain ns t)))
 
 -- a fault that it found is the answer
-measured_fault : (ns : List (List ℕ)) (right : Bool) (room : Room) (n left : ℕ) (x : TypeAt) (f : Fault) → M.Stop f ≡ measured_of ns right room x → answer_of f ≡ written_by ns n left x
-unfolding measured_of written_by answer_of
-measured_fault ns right room n left (malformed q) f h = let a : f ≡ F.Malformed q = cc in rw a
-measured_fault ns right room n left (deep q) f h = let a : f ≡ F.Deep q = cc in rw a
-measured_fault ns right room n left (got t e) f h = absurd (let z : ◌≡◌ {A = ℕ} 0 1 = cc in omega arith)
+measured_fault : (ns : List (List ℕ)) (side : Side) (room : Option ℕ) (n left : ℕ) (x : TypeAt) (f : Fault ℕ) → Err f ≡ measured_of ns side room x → Err (At f) ≡ written_by ns n left x
+unfolding measured_of written_by
+measured_fault ns side room n left (malformed q) f h = let a : f ≡ F.Malformed q = cc in rw a
+measured_fault ns side room n left (deep q) f h = let a : f ≡ F.Beyond q = cc in rw a
+measured_fault ns side room n left (got t e) f h = absurd (let z : ◌≡◌ {A = ℕ} 0 1 = cc in omega arith)
 
 module _ (r tab page : List ℕ) (pos : ℕ) where
   -- an answer, and the page that goes with it
@@ -48,60 +47,60 @@ module _ (r tab page : List ℕ) (pos : ℕ) where
   ends a new h g = (h, g ∙ ap (λ (x : Answer). written_page (names tab) page pos x (type_at 65 (length (names tab)) r 0)) h)
 
   module _ (g : Bool) (eg : g ≡ good_table tab) where
-    pub write_table : not g ≡ true → (Bad ≡ write_answer r tab page pos) × (page ≡ write_page r tab page pos)
+    pub write_table : not g ≡ true → (Err Bad ≡ write_answer r tab page pos) × (page ≡ write_page r tab page pos)
     unfolding write_answer written_page
-    write_table h = ends Bad page (sym (rw (sym eg ∙ not-true g h))) refl
+    write_table h = ends (Err Bad) page (sym (rw (sym eg ∙ not-true g h))) refl
 
     module _ (hg : not g ≡ false) where
-      pub write_position : length page < pos → (Bad ≡ write_answer r tab page pos) × (page ≡ write_page r tab page pos)
+      pub write_position : length page < pos → (Err Bad ≡ write_answer r tab page pos) × (page ≡ write_page r tab page pos)
       unfolding write_answer written_page
-      write_position h = ends Bad page (sym (rw (sym eg ∙ not-false g hg, lt-leb pos (length page) h))) refl
+      write_position h = ends (Err Bad) page (sym (rw (sym eg ∙ not-false g hg, lt-leb pos (length page) h))) refl
 
-      module _ (hp : pos ≤ length page) (count : ℕ) (ec : count ≡ length (names tab)) (m : Measured) (em : m ≡ measured_of (names tab) false (Left (length page - pos)) (type_at 65 count r 0)) where
+      module _ (hp : pos ≤ length page) (count : ℕ) (ec : count ≡ length (names tab)) (m : Measured) (em : m ≡ measured_of (names tab) Plain (Some (length page - pos)) (type_at 65 count r 0)) where
         at_count : type_at 65 count r 0 ≡ type_at 65 (length (names tab)) r 0
         at_count = ap (λ (n : ℕ). type_at 65 n r 0) ec
 
-        measured : m ≡ measured_of (names tab) false (Left (length page - pos)) (type_at 65 (length (names tab)) r 0)
-        measured = em ∙ ap (measured_of (names tab) false (Left (length page - pos))) at_count
+        measured : m ≡ measured_of (names tab) Plain (Some (length page - pos)) (type_at 65 (length (names tab)) r 0)
+        measured = em ∙ ap (measured_of (names tab) Plain (Some (length page - pos))) at_count
 
         answer-is : write_answer r tab page pos ≡ written_by (names tab) (length r) (length page - pos) (type_at 65 (length (names tab)) r 0)
         unfolding write_answer
         answer-is = rw (sym eg ∙ not-false g hg, le-leb pos (length page) hp)
 
-        pub write_fault : (f : Fault) (a : Answer) → m ≡ M.Stop f → a ≡ answer_of f → (a ≡ write_answer r tab page pos) × (page ≡ write_page r tab page pos)
+        pub write_fault : (f : Fault ℕ) (a : Answer) → m ≡ Err f → a ≡ Err (At f) → (a ≡ write_answer r tab page pos) × (page ≡ write_page r tab page pos)
         write_fault f a h ea =
-            ends a page (ea ∙ measured_fault (names tab) false (Left (length page - pos)) (length r) (length page - pos) (type_at 65 (length (names tab)) r 0) f (sym h ∙ measured) ∙ sym answer-is)
+            ends a page (ea ∙ measured_fault (names tab) Plain (Some (length page - pos)) (length r) (length page - pos) (type_at 65 (length (names tab)) r 0) f (sym h ∙ measured) ∙ sym answer-is)
             (rw ea (fault-page (names tab) page pos f (type_at 65 (length (names tab)) r 0)))
 
-        module _ (e : ℕ) (more : Room) (h : m ≡ M.Type e more) where
-          stands : (t : Ty) × (type_at 65 (length (names tab)) r 0 ≡ got t e) × (more ≡ spend_of (Left (length page - pos)) (length (text (names tab) t)))
-          stands = measured_type (names tab) (Left (length page - pos)) (type_at 65 (length (names tab)) r 0) e more (sym h ∙ measured)
+        module _ (e : ℕ) (more : Option ℕ) (h : m ≡ Ok (e, more)) where
+          stands : (t : Ty) × (type_at 65 (length (names tab)) r 0 ≡ got t e) × (more ≡ spend_of (Some (length page - pos)) (length (text (names tab) t)))
+          stands = measured_type (names tab) (Some (length page - pos)) (type_at 65 (length (names tab)) r 0) e more (sym h ∙ measured)
 
-          pub write_left-over : (e ≡ length r → ⊥) → (Malformed e ≡ write_answer r tab page pos) × (page ≡ write_page r tab page pos)
+          pub write_left-over : (e ≡ length r → ⊥) → (Err (At (F.Malformed e)) ≡ write_answer r tab page pos) × (page ≡ write_page r tab page pos)
           unfolding written_page written_by
-          write_left-over n = ends (Malformed e) page (sym (answer-is ∙ rw (stands.1, ne_eqb e (length r) n))) refl
+          write_left-over n = ends (Err (At (F.Malformed e))) page (sym (answer-is ∙ rw (stands.1, ne_eqb e (length r) n))) refl
 
           module _ (he : e ≡ length r) where
-            pub write_no_room : more ≡ Over → (NoRoom ≡ write_answer r tab page pos) × (page ≡ write_page r tab page pos)
+            pub write_no_room : is_some more ≡ false → (Err NoRoom ≡ write_answer r tab page pos) × (page ≡ write_page r tab page pos)
             unfolding written_page written_by
             write_no_room o =
-                ends NoRoom page (sym (answer-is ∙ rw (stands.1, eq-eqb e (length r) he, spent-over _ _ (sym o ∙ stands.2)))) refl
+                ends (Err NoRoom) page (sym (answer-is ∙ rw (stands.1, eq-eqb e (length r) he, spent-over _ _ (sym (none_is more o) ∙ stands.2)))) refl
 
-            module _ (k : ℕ) (o : more ≡ Left k) where
+            module _ (o : is_some more ≡ true) where
               room : leb (length (text (names tab) stands.0)) (length page - pos) ≡ true
-              room = spent-left _ _ k (sym o ∙ stands.2)
+              room = let k = some_is more o in spent-left _ _ k.0 (sym k.1 ∙ stands.2)
 
-              pub write_ready : Ready (names tab) count r 0 65 false pos (length page)
+              pub write_ready : Ready (names tab) count r 0 65 Plain pos (length page)
               write_ready =
                   record {
                     type = stands.0;
                     end = e;
                     stands = at_count ∙ stands.1;
-                    fits = omega (arith, leb-true (length (text (names tab) stands.0)) (length page - pos) room, ap length (in_false (names tab) stands.0));
+                    fits = omega (arith, leb-true (length (text (names tab) stands.0)) (length page - pos) room, ap length (in_plain (names tab) stands.0));
                   }
 
-              pub write_done : (new : List ℕ) (f n : ℕ) → Written (names tab) count r 0 65 false pos page new f n → (Done n ≡ write_answer r tab page pos) × (new ≡ write_page r tab page pos)
+              pub write_done : (part : List ℕ) (f n : ℕ) → Written (names tab) count r 0 65 Plain 0 (take (length page - pos) (drop pos page)) part f n → (Ok n ≡ write_answer r tab page pos) × (take pos page ++ (part ++ drop (length page - pos) (drop pos page)) ≡ write_page r tab page pos)
               unfolding written_page written_by Written text_in
-              write_done new f n w =
-                  let s = (w stands.0 e (at_count ∙ stands.1)).1 in
-                  ends (Done n) new (sym (answer-is ∙ rw (stands.1, eq-eqb e (length r) he, room, ← s.count))) (s.page ∙ sym (rw stands.1))
+              write_done part f n w =
+                  let s = (lent-end page write_ready part f n w stands.0 e (at_count ∙ stands.1)).1 in
+                  ends (Ok n) _ (sym (answer-is ∙ rw (stands.1, eq-eqb e (length r) he, room, ← s.count))) (s.page ∙ sym (rw stands.1))

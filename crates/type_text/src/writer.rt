@@ -8,18 +8,9 @@ ghost use Rattle.type_text.specs.Page.{Splice};
 ghost use Rattle.type_text.specs.Measure.{signs_of, measured_of};
 ghost use Rattle.type_text.specs.Put.{Ready, Written};
 
-use super::Fault;
-use super::page::{Room, copy, spend};
-use name_table::Part;
+use super::page::{copy, spend};
 use type_grammar::{CLOSE, INTEGER, OPEN, POWER, TIMES};
-use types::{Atom, Head};
-
-// Where a type record ends and the room that its text leaves; or the first fault.
-#[derive(Clone, Copy)]
-pub enum Measured {
-    Type(usize, Room),
-    Stop(Fault),
-}
+use types::{Atom, Fault, Head};
 
 // Where a type record ends and how many bytes were written for it.
 #[derive(Clone, Copy)]
@@ -28,167 +19,137 @@ pub struct Wrote {
     pub width: usize,
 }
 
-// How many bytes an atom's text has.
-fn atom_width(table: &[u8], a: Atom) -> usize
-    ensures { result ≡ length (text_atom (names table.now) (atom_is a)) }
-{
-    match a {
-        Atom::Bool => name_table::BOOLEAN.len(),
-        Atom::Integer => INTEGER.len(),
-        Atom::Given(n) => match name_table::name_at(table, n) {
-            Part::From(s, e) => e - s,
-            Part::Missing => 0,
-        },
-    }
+// Where a type stands in a text: a product that is a right operand is bracketed.
+#[derive(Clone, Copy, PartialEq, Eq)]
+pub enum Side {
+    Right,
+    Plain,
 }
 
 // How many bytes of a product's text are neither operand's.
-fn signs(right: bool) -> usize
-    ensures { result ≡ signs_of right }
+fn signs(side: Side) -> usize
+    ensures { result ≡ signs_of side }
 {
-    if right {
-        return OPEN.len() + CLOSE.len() + TIMES.len();
-    }
-    TIMES.len()
-}
-
-// count: how many names there are; left: the levels of records that remain; right: the type is a right operand, so that a product is bracketed.
-pub(crate) fn measure(
-    bytes: &[u8],
-    table: &[u8],
-    count: u32,
-    at: usize,
-    left: u32,
-    right: bool,
-    room: Room,
-) -> Measured
-    ensures { result ≡ measured_of (names table.now) right room (type_at left count bytes.now at) }
-{
-    match types::head_at(bytes, count, at) {
-        Head::Wrong => Measured::Stop(Fault::Malformed(at)),
-        Head::Atomic(a, e) => {
-            if left == 0 {
-                return Measured::Stop(Fault::Deep(at));
-            }
-            Measured::Type(e, spend(room, atom_width(table, a)))
-        }
-        Head::Power(e) => {
-            if left == 0 {
-                return Measured::Stop(Fault::Deep(at));
-            }
-            measure(
-                bytes,
-                table,
-                count,
-                e,
-                left - 1,
-                false,
-                spend(room, POWER.len() + CLOSE.len()),
-            )
-        }
-        Head::Product(e) => {
-            if left == 0 {
-                return Measured::Stop(Fault::Deep(at));
-            }
-            match measure(
-                bytes,
-                table,
-                count,
-                e,
-                left - 1,
-                false,
-                spend(room, signs(right)),
-            ) {
-                Measured::Stop(f) => Measured::Stop(f),
-                Measured::Type(f, more) => measure(bytes, table, count, f, left - 1, true, more),
-            }
-        }
+    match side {
+        Side::Right => OPEN.len() + CLOSE.len() + TIMES.len(),
+        Side::Plain => TIMES.len(),
     }
 }
 
-// Puts an atom's text at the page's start.
-fn put_atom(table: &[u8], a: Atom, page: &mut [u8]) -> usize
-    requires { length (text_atom (names table.now) (atom_is a)) ≤ length page.old }
-    ensures { Splice 0 (text_atom (names table.now) (atom_is a)) page.old page.new result }
-{
-    match a {
-        Atom::Bool => copy(page, 0, &name_table::BOOLEAN),
-        Atom::Integer => copy(page, 0, &INTEGER),
-        Atom::Given(n) => match name_table::name_at(table, n) {
-            Part::From(s, e) => copy(page, 0, &table[s..e]),
-            Part::Missing => 0,
-        },
-    }
+// A type record, its name table, and how many names this has.
+#[derive(Clone, Copy)]
+pub(crate) struct Writer<'a> {
+    pub(crate) bytes: &'a [u8],
+    pub(crate) table: &'a [u8],
+    pub(crate) count: u32,
 }
 
-// Lends the page's tail to a nested operand.
-#[cycle(putting)]
-pub(crate) fn put_at(
-    bytes: &[u8],
-    table: &[u8],
-    count: u32,
-    at: usize,
-    left: u32,
-    right: bool,
-    page: &mut [u8],
-    from: usize,
-) -> Wrote
-    requires { Ready (names table.now) count bytes.now at left right from (length page.old) }
-    ensures { Written (names table.now) count bytes.now at left right from page.old page.new result.end result.width }
-{
-    put(bytes, table, count, at, left, right, &mut page[from..])
-}
-
-// Puts a type's text at the page's start.
-#[cycle(putting)]
-fn put(
-    bytes: &[u8],
-    table: &[u8],
-    count: u32,
-    at: usize,
-    left: u32,
-    right: bool,
-    page: &mut [u8],
-) -> Wrote
-    requires { Ready (names table.now) count bytes.now at left right 0 (length page.old) }
-    ensures { Written (names table.now) count bytes.now at left right 0 page.old page.new result.end result.width }
-{
-    match types::head_at(bytes, count, at) {
-        Head::Wrong => Wrote { end: at, width: 0 },
-        Head::Atomic(a, e) => {
-            let n = put_atom(table, a, page);
-            Wrote { end: e, width: n }
+impl Writer<'_> {
+    // How many bytes an atom's text has.
+    fn atom_width(&self, a: Atom) -> usize
+        ensures { result ≡ length (text_atom (names self.now.table.now) (atom_is a)) }
+    {
+        match a {
+            Atom::Bool => name_table::BOOLEAN.len(),
+            Atom::Integer => INTEGER.len(),
+            Atom::Given(n) => match name_table::name_at(self.table, n) {
+                Some(name) => name.len(),
+                None => 0,
+            },
         }
-        Head::Power(e) => {
-            let n = copy(page, 0, &POWER);
-            let w = put_at(bytes, table, count, e, left - 1, false, page, n);
-            let m = n + w.width;
-            let k = copy(page, m, &CLOSE);
-            Wrote {
-                end: w.end,
-                width: m + k,
+    }
+
+    // Where a type record ends and the room that its text leaves; or the first fault.
+    // left: the levels of records that remain.
+    pub(crate) fn measure(
+        &self,
+        at: usize,
+        left: u32,
+        side: Side,
+        room: Option<usize>,
+    ) -> Result<(usize, Option<usize>), Fault<usize>>
+        ensures { result ≡ measured_of (names self.now.table.now) side room (type_at left self.now.count self.now.bytes.now at) }
+    {
+        let head = types::head_at(self.bytes, self.count, at).ok_or(Fault::Malformed(at))?;
+        if left == 0 {
+            return Err(Fault::Beyond(at));
+        }
+        match head {
+            Head::Atomic(a, e) => Ok((e, spend(room, self.atom_width(a)))),
+            Head::Power(e) => {
+                self.measure(
+                    e,
+                    left - 1,
+                    Side::Plain,
+                    spend(room, POWER.len() + CLOSE.len()),
+                )
+            }
+            Head::Product(e) => {
+                let (f, more) = self.measure(e, left - 1, Side::Plain, spend(room, signs(side)))?;
+                self.measure(f, left - 1, Side::Right, more)
             }
         }
-        Head::Product(e) => {
-            if right {
-                let n = copy(page, 0, &OPEN);
-                let w = put_at(bytes, table, count, at, left, false, page, n);
+    }
+
+    // Puts an atom's text at the page's start.
+    fn put_atom(&self, a: Atom, page: &mut [u8]) -> usize
+        requires { length (text_atom (names self.now.table.now) (atom_is a)) ≤ length page.old }
+        ensures { Splice 0 (text_atom (names self.now.table.now) (atom_is a)) page.old page.new result }
+    {
+        match a {
+            Atom::Bool => copy(page, 0, &name_table::BOOLEAN),
+            Atom::Integer => copy(page, 0, &INTEGER),
+            Atom::Given(n) => match name_table::name_at(self.table, n) {
+                Some(name) => copy(page, 0, name),
+                None => 0,
+            },
+        }
+    }
+
+    // Puts a type's text at the page's start.
+    pub(crate) fn put(&self, at: usize, left: u32, side: Side, page: &mut [u8]) -> Wrote
+        requires { Ready (names self.now.table.now) self.now.count self.now.bytes.now at left side 0 (length page.old) }
+        ensures { Written (names self.now.table.now) self.now.count self.now.bytes.now at left side 0 page.old page.new result.end result.width }
+    {
+        match types::head_at(self.bytes, self.count, at) {
+            None => Wrote { end: at, width: 0 },
+            Some(Head::Atomic(a, e)) => {
+                let n = self.put_atom(a, page);
+                Wrote { end: e, width: n }
+            }
+            Some(Head::Power(e)) => {
+                let n = copy(page, 0, &POWER);
+                let w = self.put(e, left - 1, Side::Plain, &mut page[n..]);
                 let m = n + w.width;
                 let k = copy(page, m, &CLOSE);
-                return Wrote {
+                Wrote {
                     end: w.end,
                     width: m + k,
-                };
+                }
             }
-            let a = put_at(bytes, table, count, e, left - 1, false, page, 0);
-            let n = a.width;
-            let k = copy(page, n, &TIMES);
-            let m = n + k;
-            let b = put_at(bytes, table, count, a.end, left - 1, true, page, m);
-            Wrote {
-                end: b.end,
-                width: m + b.width,
-            }
+            Some(Head::Product(e)) => match side {
+                Side::Right => {
+                    let n = copy(page, 0, &OPEN);
+                    let w = self.put(at, left, Side::Plain, &mut page[n..]);
+                    let m = n + w.width;
+                    let k = copy(page, m, &CLOSE);
+                    Wrote {
+                        end: w.end,
+                        width: m + k,
+                    }
+                }
+                Side::Plain => {
+                    let a = self.put(e, left - 1, Side::Plain, page);
+                    let n = a.width;
+                    let k = copy(page, n, &TIMES);
+                    let m = n + k;
+                    let b = self.put(a.end, left - 1, Side::Right, &mut page[m..]);
+                    Wrote {
+                        end: b.end,
+                        width: m + b.width,
+                    }
+                }
+            },
         }
     }
 }

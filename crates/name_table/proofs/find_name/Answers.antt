@@ -1,22 +1,24 @@
--- `find_name`: no name before the i-th is the word, so its number is i more than in the names that are left.
-use Rattle.std.proofs.Common.{rules, arith}
-use Rattle.name_table.specs.Steps.{find-start, find-over, find-out, find_hit, find_miss}
+-- `find_name`: the place of the first record of the name among the first 256.
+use Rattle.std.proofs.Common.{rules, ◌∙◌, sym, take, Some, None}
+use borrow.Author.Tests.{tests}
+use Rattle.std.proofs.lemmas.Iterator.Search.{position_from_yields_List}
+use Rattle.std.proofs.lemmas.Iterator.Adapters.{position_from-zero}
+use Rattle.name_table.specs.Table.{records}
+use Rattle.name_table.specs.Steps.{found, has_name}
+use Rattle.name_table.proofs.FirstRecords.{first_records}
 use Rattle.name_table.proofs.find_name.Goals as goal
 
-pub loop-i-init : goal.loop-i-init
-loop-i-init c = find-start _ _
-
-pub returns-then-at-table : goal.returns-then-at-table
-returns-then-at-table c = find-over _ _ c.loop-i.at c.loop-i.i c.loop-i.invariant (search rules)
-
-pub slice_bounds-same_bytes-count : goal.slice_bounds-same_bytes-count
-slice_bounds-same_bytes-count c = omega (arith, c.name_end-e.ensures.after)
-
-pub returns-then-same_bytes : goal.returns-then-same_bytes
-returns-then-same_bytes c = find_hit _ _ c.loop-i.at c.loop-i.i c.loop-i.invariant _ _ (search rules) (search rules) c.name_end-e.ensures c.same_bytes.ensures c.if-same_bytes.true
-
-pub loop-i-preserved : goal.loop-i-preserved
-loop-i-preserved c = find_miss _ _ c.loop-i.at c.loop-i.i c.loop-i.invariant _ _ (search rules) (search rules) c.name_end-e.ensures c.same_bytes.ensures c.if-same_bytes.false
+pub returns-in_err-i : goal.returns-in_err-i
+returns-in_err-i c =
+    c.from_residual.ensures
+    ∙ found c.args.table.now c.args.word.now None
+    (sym c.in_err-i.was
+    ∙ position_from_yields_List (has_name c.args.word.now) c.position.new.self _ c.position.result c.position.ensures.ran (first_records _ c.take.ensures.source c.take.ensures.count) (λ x b q k. search (rules, tests))
+    ∙ position_from-zero (has_name c.args.word.now) (take 256 (records c.args.table.now)))
 
 pub returns : goal.returns
-returns c = find-out _ _ c.loop-i.at c.loop-i.i c.loop-i.invariant (search rules)
+returns c =
+    found c.args.table.now c.args.word.now (Some c.in_ok-i.i)
+    (sym c.in_ok-i.was
+    ∙ position_from_yields_List (has_name c.args.word.now) c.position.new.self _ c.position.result c.position.ensures.ran (first_records _ c.take.ensures.source c.take.ensures.count) (λ x b q k. search (rules, tests))
+    ∙ position_from-zero (has_name c.args.word.now) (take 256 (records c.args.table.now)))

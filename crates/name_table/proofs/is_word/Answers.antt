@@ -1,22 +1,22 @@
--- `is_word`: up to i every byte is a word's, so the word is good exactly if the rest is.
-use Rattle.std.proofs.Common.{rules, sym, ap, not}
-use Rattle.name_table.specs.Steps.{is-word-none, is-word-bad, is-word-start, is-word-stop, is-word-on, is-word-end}
+-- `is_word`: a letter, then bytes of words.
+use Rattle.std.proofs.Common.{rules, ap, ◌∙◌, Bool, ◌&&◌, refl}
+use borrow.Author.Tests.{tests}
+use Rattle.std.proofs.lemmas.Iterator.{YieldsList-from_slice}
+use Rattle.std.proofs.lemmas.Iterator.Search.{all_from_yields_List}
+use Rattle.std.specs.List.{list_all}
+use Rattle.name_table.specs.Words.{word_byte}
+use Rattle.name_table.specs.Steps.{is-word-none, is-word-some}
 use Rattle.name_table.proofs.is_word.Goals as goal
 
-pub returns-then-w-eq0 : goal.returns-then-w-eq0
-returns-then-w-eq0 c = sym (is-word-none _ (search rules))
+pub returns-then-is_letter : goal.returns-then-is_letter
+returns-then-is_letter c =
+    ap (λ (b : Bool). b && c.all.result) c.if-is_letter.ensures
+    ∙ is-word-some _ _ _ _ c.in-Some.ensures.cases.0 (all_from_yields_List word_byte _ _ c.all.result c.all.ensures.ran (YieldsList-from_slice c.in-Some.rest.now (cc)) (λ x b q k. search (rules, tests)))
 
-pub returns-then-not-is_letter : goal.returns-then-not-is_letter
-returns-then-not-is_letter c = is-word-bad _ _ (search rules) c.is_letter.ensures (ap not c.if-not-is_letter.true)
+pub returns-else-is_letter : goal.returns-else-is_letter
+returns-else-is_letter c =
+    c.if-is_letter.false ∙ ap (λ (b : Bool). b && list_all word_byte c.in-Some.rest.now) c.if-is_letter.ensures
+    ∙ is-word-some _ _ _ _ c.in-Some.ensures.cases.0 refl
 
-pub loop-i-init : goal.loop-i-init
-loop-i-init c = is-word-start _ _ (search rules) c.is_letter.ensures (ap not c.if-not-is_letter.false)
-
-pub returns-then-not-is_word_byte : goal.returns-then-not-is_word_byte
-returns-then-not-is_word_byte c = is-word-stop _ _ c.loop-i.invariant _ (search rules) c.is_word_byte.ensures (ap not c.if-not-is_word_byte.true)
-
-pub loop-i-preserved : goal.loop-i-preserved
-loop-i-preserved c = is-word-on _ _ c.loop-i.invariant _ (search rules) c.is_word_byte.ensures (ap not c.if-not-is_word_byte.false)
-
-pub returns : goal.returns
-returns c = is-word-end _ c.loop-i.i c.loop-i.invariant (search rules)
+pub returns-in-None : goal.returns-in-None
+returns-in-None c = is-word-none _ c.in-None.ensures.cases

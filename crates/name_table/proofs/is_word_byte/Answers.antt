@@ -1,16 +1,10 @@
--- `is_word_byte` is the test of the definition, range by range.
-use Rattle.std.proofs.Common.{sym, rules, ◌∙◌}
-use Rattle.name_table.specs.Steps.{word-letter, word_low, word_digit, word_high}
+-- `is_word_byte` is the library's test, or the underscore's.
+use Rattle.std.proofs.Common.{◌∙◌, sym, ap, Bool, ◌||◌, eqb}
+use Rattle.name_table.specs.Steps.{word_byte_is}
 use Rattle.name_table.proofs.is_word_byte.Goals as goal
 
-pub returns-then-is_letter : goal.returns-then-is_letter
-returns-then-is_letter c = sym (word-letter _ (sym c.is_letter.ensures ∙ c.if-is_letter.true))
+pub returns-then-is_ascii_alphanumeric : goal.returns-then-is_ascii_alphanumeric
+returns-then-is_ascii_alphanumeric c = let e = c.is_ascii_alphanumeric.ensures.value in let t = c.if-is_ascii_alphanumeric.true in t ∙ ap (λ (b : Bool). b || eqb c.args.c 95) (sym t ∙ e) ∙ word_byte_is c.args.c
 
-pub returns-then-c-lt48 : goal.returns-then-c-lt48
-returns-then-c-lt48 c = sym (word_low _ (sym c.is_letter.ensures ∙ c.if-is_letter.false) (search rules))
-
-pub returns-then-c-le57 : goal.returns-then-c-le57
-returns-then-c-le57 c = sym (word_digit _ (sym c.is_letter.ensures ∙ c.if-is_letter.false) (search rules) (search rules))
-
-pub returns : goal.returns
-returns c = sym (word_high _ (sym c.is_letter.ensures ∙ c.if-is_letter.false) (search rules))
+pub returns-else-is_ascii_alphanumeric : goal.returns-else-is_ascii_alphanumeric
+returns-else-is_ascii_alphanumeric c = ap (λ (b : Bool). b || eqb c.args.c 95) (sym c.if-is_ascii_alphanumeric.false ∙ c.is_ascii_alphanumeric.ensures.value) ∙ word_byte_is c.args.c

@@ -1,19 +1,19 @@
--- `name_at`: name n of the table is name n - i of the names that are left.
-use Rattle.std.proofs.Common.{rules}
-use Rattle.name_table.specs.Steps.{left-start, left_over, left_out, left_hit, left_miss}
+-- `name_at` is the name of the record of that number among the first 256.
+use Rattle.std.proofs.Common.{sym, ap, ◌∙◌}
+use Rattle.std.specs.Option.{option_map}
+use Rattle.std.proofs.lemmas.Iterator.Consumers.{nth_from_yields_List}
+use Rattle.name_table.specs.Table.{read_record}
+use Rattle.name_table.specs.Steps.{named, unnamed}
+use Rattle.name_table.proofs.FirstRecords.{first_records}
 use Rattle.name_table.proofs.name_at.Goals as goal
 
-pub loop-i-init : goal.loop-i-init
-loop-i-init c = left-start _ _
-
-pub returns-then-at-table : goal.returns-then-at-table
-returns-then-at-table c = left_over _ _ _ _ c.loop-i.invariant (search rules)
-
-pub returns-then-i-n : goal.returns-then-i-n
-returns-then-i-n c = left_hit _ _ _ _ c.loop-i.invariant _ (search rules) (search rules) c.name_end-e.ensures c.if-i-n.true
-
-pub loop-i-preserved : goal.loop-i-preserved
-loop-i-preserved c = left_miss _ _ _ _ c.loop-i.invariant _ (search rules) (search rules) c.name_end-e.ensures c.if-i-n.false
+pub returns-in_err-name : goal.returns-in_err-name
+returns-in_err-name c =
+    rw c.from_residual.ensures
+    (unnamed c.args.table.now c.args.n.0
+    (ap (option_map read_record) (sym c.in_err-name.was) ∙ nth_from_yields_List c.nth.result c.nth.new.self c.args.n.0 c.nth.ensures.ran (first_records _ c.take.ensures.source c.take.ensures.count)))
 
 pub returns : goal.returns
-returns c = left_out _ _ _ _ c.loop-i.invariant (search rules)
+returns c =
+    named c.args.table.now c.args.n.0 c.in_ok-name.field-0-0 c.in_ok-name.name
+    (ap (option_map read_record) (sym c.in_ok-name.was) ∙ nth_from_yields_List c.nth.result c.nth.new.self c.args.n.0 c.nth.ensures.ran (first_records _ c.take.ensures.source c.take.ensures.count))

@@ -1,29 +1,45 @@
 -- `token_at` tries a word, then each sign in the definition's order.
-use Rattle.std.proofs.Common.{arith, rules}
-use Rattle.type_grammar.specs.Steps.{token_none, token_word, token_integer, token_power, token_open, token_close, token_times, token_wrong}
-use Rattle.name_table.specs.Table.{names}
+use Rattle.std.proofs.Common.{arith, sym, ◌∙◌, length-take-le}
+use Rattle.type_grammar.specs.Text.{integer, power_open, bracket_open, bracket_close, times}
+use Rattle.type_grammar.specs.Token.{sign_token}
+use Rattle.type_grammar.specs.Steps.{sign_is, word_within, token_past, token_none, token_word, token_sign}
 use Rattle.type_grammar.proofs.token_at.Goals as goal
 
-pub returns-then-at-text : goal.returns-then-at-text
-returns-then-at-text c = token_none (names c.args.table.now) c.args.text.now c.args.at (search rules)
+pub returns-in_err-rest : goal.returns-in_err-rest
+returns-in_err-rest c = c.from_residual.ensures ∙ token_past _ _ _ c.in_err-rest.ensures.lookup.0
+
+pub returns-in_err-first : goal.returns-in_err-first
+returns-in_err-first c = c.from_residual-in_err-first.ensures ∙ token_none _ _ _ _ c.in_ok-rest.ensures.lookup.0.2 c.in_err-first.ensures.value
+
+pub slice_bounds-word_token-end : goal.slice_bounds-word_token-end
+slice_bounds-word_token-end c = sym (length-take-le _ c.in_ok-rest.rest.now (omega (arith, c.word_width-width.ensures, word_within c.in_ok-rest.rest.now)))
+
+pub overflow_add-at : goal.overflow_add-at
+overflow_add-at c = omega (arith, c.word_width-width.ensures, word_within c.in_ok-rest.rest.now, c.in_ok-rest.ensures.lookup)
 
 pub returns-then-is_letter : goal.returns-then-is_letter
-returns-then-is_letter c = token_word (names c.args.table.now) c.args.text.now c.args.at (omega (arith, c.if-at-text.false)) _ c.is_letter.ensures c.if-is_letter.true _ c.word_end-e.ensures _ c.word_token.ensures
+returns-then-is_letter c = c.word_token.ensures ∙ token_word _ _ _ _ c.in_ok-rest.ensures.lookup.0.2 _ c.in_ok-first.ensures.value c.if-is_letter.ensures _ c.word_width-width.ensures
 
 pub returns-then-starts_with : goal.returns-then-starts_with
-returns-then-starts_with c = token_integer (names c.args.table.now) c.args.text.now c.args.at (omega (arith, c.if-at-text.false)) _ c.is_letter.ensures c.if-is_letter.false _ c.starts_with.ensures c.if-starts_with.true
+unfolding sign_token
+returns-then-starts_with c = sym (token_sign _ _ _ _ c.in_ok-rest.ensures.lookup.0.2 _ c.in_ok-first.ensures.value c.if-is_letter.ensures ∙ rw (sign_is integer _ _ c.if-starts_with.ensures.value))
 
 pub returns-then-starts_with-2 : goal.returns-then-starts_with-2
-returns-then-starts_with-2 c = token_power (names c.args.table.now) c.args.text.now c.args.at (omega (arith, c.if-at-text.false)) _ c.is_letter.ensures c.if-is_letter.false _ c.starts_with.ensures c.if-starts_with.false _ c.starts_with-2.ensures c.if-starts_with-2.true
+unfolding sign_token
+returns-then-starts_with-2 c = sym (token_sign _ _ _ _ c.in_ok-rest.ensures.lookup.0.2 _ c.in_ok-first.ensures.value c.if-is_letter.ensures ∙ rw (sign_is integer _ _ c.if-starts_with.ensures.value, sign_is power_open _ _ c.if-starts_with-2.ensures.value))
 
 pub returns-then-starts_with-3 : goal.returns-then-starts_with-3
-returns-then-starts_with-3 c = token_open (names c.args.table.now) c.args.text.now c.args.at (omega (arith, c.if-at-text.false)) _ c.is_letter.ensures c.if-is_letter.false _ c.starts_with.ensures c.if-starts_with.false _ c.starts_with-2.ensures c.if-starts_with-2.false _ c.starts_with-3.ensures c.if-starts_with-3.true
+unfolding sign_token
+returns-then-starts_with-3 c = sym (token_sign _ _ _ _ c.in_ok-rest.ensures.lookup.0.2 _ c.in_ok-first.ensures.value c.if-is_letter.ensures ∙ rw (sign_is integer _ _ c.if-starts_with.ensures.value, sign_is power_open _ _ c.if-starts_with-2.ensures.value, sign_is bracket_open _ _ c.if-starts_with-3.ensures.value))
 
 pub returns-then-starts_with-4 : goal.returns-then-starts_with-4
-returns-then-starts_with-4 c = token_close (names c.args.table.now) c.args.text.now c.args.at (omega (arith, c.if-at-text.false)) _ c.is_letter.ensures c.if-is_letter.false _ c.starts_with.ensures c.if-starts_with.false _ c.starts_with-2.ensures c.if-starts_with-2.false _ c.starts_with-3.ensures c.if-starts_with-3.false _ c.starts_with-4.ensures c.if-starts_with-4.true
+unfolding sign_token
+returns-then-starts_with-4 c = sym (token_sign _ _ _ _ c.in_ok-rest.ensures.lookup.0.2 _ c.in_ok-first.ensures.value c.if-is_letter.ensures ∙ rw (sign_is integer _ _ c.if-starts_with.ensures.value, sign_is power_open _ _ c.if-starts_with-2.ensures.value, sign_is bracket_open _ _ c.if-starts_with-3.ensures.value, sign_is bracket_close _ _ c.if-starts_with-4.ensures.value))
 
 pub returns-then-starts_with-5 : goal.returns-then-starts_with-5
-returns-then-starts_with-5 c = token_times (names c.args.table.now) c.args.text.now c.args.at (omega (arith, c.if-at-text.false)) _ c.is_letter.ensures c.if-is_letter.false _ c.starts_with.ensures c.if-starts_with.false _ c.starts_with-2.ensures c.if-starts_with-2.false _ c.starts_with-3.ensures c.if-starts_with-3.false _ c.starts_with-4.ensures c.if-starts_with-4.false _ c.starts_with-5.ensures c.if-starts_with-5.true
+unfolding sign_token
+returns-then-starts_with-5 c = sym (token_sign _ _ _ _ c.in_ok-rest.ensures.lookup.0.2 _ c.in_ok-first.ensures.value c.if-is_letter.ensures ∙ rw (sign_is integer _ _ c.if-starts_with.ensures.value, sign_is power_open _ _ c.if-starts_with-2.ensures.value, sign_is bracket_open _ _ c.if-starts_with-3.ensures.value, sign_is bracket_close _ _ c.if-starts_with-4.ensures.value, sign_is times _ _ c.if-starts_with-5.ensures.value))
 
 pub returns : goal.returns
-returns c = token_wrong (names c.args.table.now) c.args.text.now c.args.at (omega (arith, c.if-at-text.false)) _ c.is_letter.ensures c.if-is_letter.false _ c.starts_with.ensures c.if-starts_with.false _ c.starts_with-2.ensures c.if-starts_with-2.false _ c.starts_with-3.ensures c.if-starts_with-3.false _ c.starts_with-4.ensures c.if-starts_with-4.false _ c.starts_with-5.ensures c.if-starts_with-5.false
+unfolding sign_token
+returns c = sym (token_sign _ _ _ _ c.in_ok-rest.ensures.lookup.0.2 _ c.in_ok-first.ensures.value c.if-is_letter.ensures ∙ rw (sign_is integer _ _ c.if-starts_with.ensures.value, sign_is power_open _ _ c.if-starts_with-2.ensures.value, sign_is bracket_open _ _ c.if-starts_with-3.ensures.value, sign_is bracket_close _ _ c.if-starts_with-4.ensures.value, sign_is times _ _ c.if-starts_with-5.ensures.value))

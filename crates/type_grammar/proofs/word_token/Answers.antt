@@ -1,12 +1,16 @@
 -- `word_token` asks for BOOL first, then for a name of the table.
-use Rattle.type_grammar.specs.Steps.{word-bool, word-found, word-lost}
+use Rattle.type_grammar.specs.Token.{word_token_at, name_token}
+use Rattle.name_table.specs.Steps.{boolean_is}
 use Rattle.type_grammar.proofs.word_token.Goals as goal
 
-pub returns-then-same_bytes : goal.returns-then-same_bytes
-returns-then-same_bytes c = word-bool _ _ _ _ c.same_bytes.ensures c.if-same_bytes.true
+pub returns-then-eq : goal.returns-then-eq
+unfolding word_token_at
+returns-then-eq c = rw (← boolean_is _ _ c.as_slice.ensures, ← c.if-eq.ensures)
 
-pub returns-in-At : goal.returns-in-At
-returns-in-At c = word-found _ _ _ _ c.same_bytes.ensures c.if-same_bytes.false _ c.find_name.ensures _ c.in-At.is
+pub returns-in_err-k : goal.returns-in_err-k
+unfolding word_token_at name_token
+returns-in_err-k c = rw (c.from_residual.ensures, ← boolean_is _ _ c.as_slice.ensures, ← c.if-eq.ensures, ← c.find_name.ensures, c.in_err-k.was)
 
-pub returns-in-Nothing : goal.returns-in-Nothing
-returns-in-Nothing c = word-lost _ _ _ _ c.same_bytes.ensures c.if-same_bytes.false _ c.find_name.ensures c.in-Nothing.is
+pub returns : goal.returns
+unfolding word_token_at name_token
+returns c = rw (← boolean_is _ _ c.as_slice.ensures, ← c.if-eq.ensures, ← c.find_name.ensures, c.in_ok-k.was)

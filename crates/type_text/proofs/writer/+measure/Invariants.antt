@@ -1,4 +1,0 @@
-use Rattle.type_text.proofs.writer.+measure.Given as goal
-
-abbrev pub decreases-measure : goal.decreases-measure
-decreases-measure l = l.left
