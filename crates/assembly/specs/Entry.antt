@@ -1,13 +1,14 @@
 -- The entry, put together: a call, step by step as the code goes, is the call that `infer_of` defines.
 -- After this file `calls_infer` is all that the entry's proof needs: it speaks of bytes, lengths and the environment's table, and of nothing inside.
-use Rattle.std.specs.Prelude.{ℕ, ◌+◌, ◌*◌, ◌≤◌, ◌<◌, ◌≡◌, Bool, true, false, List, [], ◌∷◌, eqb, length, take, get_or}
+use Rattle.types.specs.declared.Place.{Place}
+use Rattle.std.specs.Prelude.{ℕ, ◌+◌, ◌*◌, ◌≤◌, ◌<◌, ◌≡◌, Bool, true, false, List, [], ◌∷◌, eqb, length, take, get_or, Err}
 use Rattle.std.proofs.Math.Path.{refl, sym}
 use Rattle.std.proofs.Common.{◌∙◌, ap, subst, arith, length-take-le, le-ltb}
 use Rattle.meter.specs.Meter.{Out, spent, halt, done, broken, full}
 use Rattle.types.specs.Ty.{Ty, Below}
 use Rattle.types.specs.Spellings.{bytes-at}
-use Rattle.formula.specs.declared.Fault.{Fault}
-use Rattle.formula.specs.declared.Fault.TheVariants as F
+use Rattle.types.specs.declared.Fault.{Fault}
+use Rattle.types.specs.declared.Fault.TheVariants as F
 use Rattle.formula.specs.Environment.{holds, first, Entries, lookup}
 use Rattle.formula.specs.EnvParse.{capped, environment_of, Table}
 use Rattle.formula.specs.EnvSteps.{capped-most}
@@ -28,14 +29,14 @@ use Rattle.inference.specs.Infer.{either, sized, concluded, fitting, answer, ans
 use Rattle.inference.specs.Sizes.{Sized}
 use Rattle.inference.proofs.Sizes.{sized-holds}
 use Rattle.machine.specs.Machine.{Mach}
-use Rattle.forms.specs.Forms.{test, then}
+use Rattle.forms.specs.Forms.{then}
 use Rattle.walker.specs.Root.{formula_of}
 use Rattle.finisher.specs.Finisher.{most, finish_of, write_answer_of}
 use Rattle.simulation.specs.Whole.{walk_ends}
 use Rattle.conclusion.specs.Conclusion.{Concludes, concludes}
-use Rattle.runner.specs.declared.Answer.{Answer}
-use Rattle.runner.specs.declared.Answer.TheVariants.{Oversized}
-use Rattle.runner.specs.Answers.{told, brief, called, call_of}
+use Rattle.runner.specs.declared.Input.TheVariants as In
+use Rattle.runner.specs.declared.Refusal.TheVariants.{Oversized}
+use Rattle.runner.specs.Answers.{Answer, told, brief, called, call_of}
 use Rattle.runner.specs.Run.{judged, run_of, judge_of, fault_of}
 use Rattle.runner.specs.Calls.{closed, formula_call, environment_call}
 use Rattle.assembly.specs.Start.{begun, begun_fresh, begun-budget}
@@ -109,7 +110,7 @@ module _ (s env types : List ℕ) (names cap budget : ℕ) (out work : List ℕ)
       closed_call (answered budget (length out) (concluded cap (lookup es) f budget)) (judge_of budget (finish_of (formula_of s env start))) out work work run-says l refl (told-size budget (length out) (concluded cap (lookup es) f budget))
 
 -- ---- refusals of form, and what cannot happen
-oversized : (out work : List ℕ) → called Oversized out work ≡ call_of (refused 2 0) out work
+oversized : (out work : List ℕ) → called (Err Oversized) out work ≡ call_of (refused 2 0) out work
 unfolding called call_of told brief refused output_after work_after either
 oversized out work = refl
 
@@ -117,13 +118,13 @@ blamed_call : (a : Answer) (i : I.Answer) (out work : List ℕ) → told a ≡ b
 blamed_call a i out work t b z n =
     closed_call i (judged a out) out work work (record { tells = t; holds = ap (λ (k : ℕ). take k out) z ∙ sym b; plain = n }) refl refl (ap length b ∙ sym z)
 
-environment-blamed : (fault : Fault) (out work : List ℕ) → closed (judged (fault_of true fault) out) work ≡ call_of (blamed 3 fault) out work
-unfolding blamed fault_of test told brief refused
+environment-blamed : (fault : Fault Place) (out work : List ℕ) → closed (judged (Err (fault_of In.Environment fault)) out) work ≡ call_of (blamed 3 fault) out work
+unfolding blamed fault_of told brief refused
 environment-blamed (F.Malformed p) out work = blamed_call _ (refused 3 p.0) out work refl refl refl (λ e. omega arith)
 environment-blamed (F.Beyond p) out work = blamed_call _ (refused 5 p.0) out work refl refl refl (λ e. omega arith)
 
-formula-blamed : (fault : Fault) (out work : List ℕ) → closed (judged (fault_of false fault) out) work ≡ call_of (blamed 4 fault) out work
-unfolding blamed fault_of test told brief refused
+formula-blamed : (fault : Fault Place) (out work : List ℕ) → closed (judged (Err (fault_of In.Formula fault)) out) work ≡ call_of (blamed 4 fault) out work
+unfolding blamed fault_of told brief refused
 formula-blamed (F.Malformed p) out work = blamed_call _ (refused 4 p.0) out work refl refl refl (λ e. omega arith)
 formula-blamed (F.Beyond p) out work = blamed_call _ (refused 5 p.0) out work refl refl refl (λ e. omega arith)
 
@@ -154,7 +155,7 @@ module _ (s env types : List ℕ) (names cap budget : ℕ) (out work : List ℕ)
 
 -- sizes out of order
 pub oversized_call : (s env : List ℕ) (names cap budget : ℕ) (out work : List ℕ) → sized (length s) (length env) names cap (length work) ≡ false
-    → called Oversized out work ≡ call_of (infer_of s env names cap budget (length out) (length work)) out work
+    → called (Err Oversized) out work ≡ call_of (infer_of s env names cap budget (length out) (length work)) out work
 unfolding infer_of either
 oversized_call s env names cap budget out work e =
     oversized out work ∙ sym (ap (λ (c : Bool). call_of (either c (formed cap budget (length out) (environment_of names env) (parse_of names s)) (refused 2 0)) out work) e)

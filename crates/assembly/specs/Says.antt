@@ -1,5 +1,5 @@
 -- From what the machine holds when the tests are done to the answer that is returned and the bytes that stand in the output.
-use Rattle.std.specs.Prelude.{ℕ, ◌+◌, ◌-◌, ◌≤◌, min, ◌≡◌, refl, ◌≢◌, Bool, List, ◌++◌, eqb, length, take, replicate}
+use Rattle.std.specs.Prelude.{ℕ, ◌+◌, ◌-◌, ◌≤◌, min, ◌≡◌, refl, ◌≢◌, Bool, List, ◌++◌, eqb, length, take, replicate, Ok, Err}
 use Rattle.std.proofs.Common.{sym, ◌∙◌, length-append, length-take, eq-eqb, ne_eqb, le-leb}
 use Rattle.std.proofs.Math.Path.{ap, ap₂, subst}
 use Rattle.std.proofs.Math.Bool.{true, false}
@@ -15,16 +15,18 @@ use Rattle.inference.specs.Answer as I
 use Rattle.inference.specs.Answer.{Problem, spell_problems, spell_slots, refused, written}
 use Rattle.inference.specs.Finish.{Outcome, typed, failed}
 use Rattle.inference.specs.Infer.{either, zeros, fitting, answer, answered, output_after, work_after}
-use Rattle.machine.specs.declared.State.{State}
+use Rattle.machine.specs.State.{State}
 use Rattle.forms.specs.Forms.{test, then}
 use Rattle.machine.specs.Machine.{Mach}
 use Rattle.memory.specs.Memory.{cleared}
 use Rattle.simulation.specs.Relation.{Wrote}
-use Rattle.simulation.specs.Stand.{test_yes, test_no}
+use Rattle.machine.specs.Still.{test_yes, test_no}
 use Rattle.conclusion.specs.Conclusion.{Concludes}
 use Rattle.finisher.specs.Finisher.{write_answer_of}
-use Rattle.runner.specs.declared.Answer.TheVariants.{Typed, Problems, Full, Spent, NoRoom}
-use Rattle.runner.specs.Answers.{Told, told, brief, called, call_of}
+use Rattle.runner.specs.declared.Verdict.{Verdict}
+use Rattle.runner.specs.declared.Verdict.TheVariants.{Typed, Problems}
+use Rattle.runner.specs.declared.Refusal.TheVariants.{Full, Spent, NoRoom}
+use Rattle.runner.specs.Answers.{Told, number_of, told, brief, called, call_of}
 use Rattle.runner.specs.Run.{Judged, judged, verdict_of, judge_of}
 use Rattle.runner.specs.Calls.{closed}
 
@@ -35,58 +37,49 @@ pub record Says (room : ℕ) (a : I.Answer) (j : Judged) : Type 0 where
   pub plain : a.number ≢ 2
 
 -- ---- a state that is final
-verdict-going : (kind : Bool) (budget : ℕ) (v : State) → v.stop ≡ 0 → verdict_of kind budget v ≡ test v.over (λ _. NoRoom) (λ _. test kind (λ _. Typed v.bytes (budget - v.budget)) (λ _. Problems v.bytes (budget - v.budget)))
+verdict-going : (kind : Verdict) (budget : ℕ) (v : State) → v.stop ≡ 0 → verdict_of kind budget v ≡ test v.over (λ _. Err NoRoom) (λ _. Ok (record { verdict = kind; length = v.bytes; steps = budget - v.budget }))
 unfolding verdict_of
 verdict-going kind budget v e =
     test_no (eqb v.stop 6) _ _ (ne_eqb v.stop 6 (λ q. omega arith))
     ∙ test_no (eqb v.stop 7) _ _ (ne_eqb v.stop 7 (λ q. omega arith))
     ∙ test_yes (eqb v.stop 0) _ _ (eq-eqb v.stop 0 e)
 
-verdict-spent : (kind : Bool) (budget : ℕ) (v : State) → v.stop ≡ 7 → verdict_of kind budget v ≡ Spent
+verdict-spent : (kind : Verdict) (budget : ℕ) (v : State) → v.stop ≡ 7 → verdict_of kind budget v ≡ Err Spent
 unfolding verdict_of
 verdict-spent kind budget v e = test_no (eqb v.stop 6) _ _ (ne_eqb v.stop 6 (λ q. omega arith)) ∙ test_yes (eqb v.stop 7) _ _ (eq-eqb v.stop 7 e)
 
-verdict_full : (kind : Bool) (budget : ℕ) (v : State) → v.stop ≡ 6 → verdict_of kind budget v ≡ Full
+verdict_full : (kind : Verdict) (budget : ℕ) (v : State) → v.stop ≡ 6 → verdict_of kind budget v ≡ Err Full
 unfolding verdict_of
 verdict_full kind budget v e = test_yes (eqb v.stop 6) _ _ (eq-eqb v.stop 6 e)
 
 -- the number of an answer that is written
-unfoldable pub numbered : Bool → ℕ
-numbered true = 0
-numbered false = 1
-
-numbered-plain : (kind : Bool) → numbered kind ≢ 2
-unfolding numbered
-numbered-plain true e = omega arith
-numbered-plain false e = omega arith
-
-told-written : (kind : Bool) (n k : ℕ) → told (test kind (λ _. Typed n k) (λ _. Problems n k)) ≡ record { number = numbered kind; place = 0; size = n; steps = k }
-unfolding numbered told test
-told-written true n k = refl
-told-written false n k = refl
+numbered-plain : (kind : Verdict) → number_of kind ≢ 2
+unfolding number_of
+numbered-plain Typed e = omega arith
+numbered-plain Problems e = omega arith
 
 -- its bytes are P, whether they fit or not
-module _ (room budget r : ℕ) (kind : Bool) (P : List ℕ) (v : State) (out : List ℕ) (going : v.stop ≡ 0) (left : v.budget ≡ r) (w : Wrote room P v.bytes v.over out) where
-  final : Dec (length P ≤ room) → Says room (fitting room (written (numbered kind) (budget - r) P)) (judged (verdict_of kind budget v) out)
+module _ (room budget r : ℕ) (kind : Verdict) (P : List ℕ) (v : State) (out : List ℕ) (going : v.stop ≡ 0) (left : v.budget ≡ r) (w : Wrote room P v.bytes v.over out) where
+  final : Dec (length P ≤ room) → Says room (fitting room (written (number_of kind) (budget - r) P)) (judged (verdict_of kind budget v) out)
   unfolding fitting written brief either refused told
   final (yes l) =
       let i = w.inside l in
-      let f : fitting room (written (numbered kind) (budget - r) P) ≡ written (numbered kind) (budget - r) P = ap (λ (c : Bool). either c (written (numbered kind) (budget - r) P) (refused 8 0)) (le-leb (length P) room l) in
+      let f : fitting room (written (number_of kind) (budget - r) P) ≡ written (number_of kind) (budget - r) P = ap (λ (c : Bool). either c (written (number_of kind) (budget - r) P) (refused 8 0)) (le-leb (length P) room l) in
       subst (λ (a : I.Answer). Says room a (judged (verdict_of kind budget v) out)) (sym f) (record {
-        tells = ap told (verdict-going kind budget v going ∙ test_no v.over _ _ i.0) ∙ told-written kind v.bytes (budget - v.budget)
-            ∙ ap₂ (λ (n k : ℕ). record { number = numbered kind; place = 0; size = n; steps = budget - k }) i.1 left;
+        tells = ap told (verdict-going kind budget v going ∙ test_no v.over _ _ i.0)
+            ∙ ap₂ (λ (n k : ℕ). record { number = number_of kind; place = 0; size = n; steps = budget - k }) i.1 left;
         holds = i.2;
         plain = numbered-plain kind;
       })
   final (no l) =
-      let f : fitting room (written (numbered kind) (budget - r) P) ≡ refused 8 0 = ap (λ (c : Bool). either c (written (numbered kind) (budget - r) P) (refused 8 0)) (lt-leb (length P) room (omega arith)) in
+      let f : fitting room (written (number_of kind) (budget - r) P) ≡ refused 8 0 = ap (λ (c : Bool). either c (written (number_of kind) (budget - r) P) (refused 8 0)) (lt-leb (length P) room (omega arith)) in
       subst (λ (a : I.Answer). Says room a (judged (verdict_of kind budget v) out)) (sym f) (record {
         tells = ap told (verdict-going kind budget v going ∙ test_yes v.over _ _ (w.past (omega arith)));
         holds = refl;
         plain = λ e. omega arith;
       })
 
-  pub final-says : Says room (fitting room (written (numbered kind) (budget - r) P)) (judged (verdict_of kind budget v) out)
+  pub final-says : Says room (fitting room (written (number_of kind) (budget - r) P)) (judged (verdict_of kind budget v) out)
   final-says = final (dec_le (length P) room)
 
 -- ---- the answer of a machine whose tests are done
@@ -94,35 +87,35 @@ says_as : (room : ℕ) (a : I.Answer) (j j' : Judged) → j ≡ j' → Says room
 says_as room a j j' e s = subst (λ (x : Judged). Says room a x) (sym e) s
 
 module _ (room budget : ℕ) (m : Mach) where
-  judge_stopped : (m.st.stop ≡ 0 → ⊥) → judge_of budget m ≡ judged (verdict_of false budget m.st) m.out
+  judge_stopped : (m.st.stop ≡ 0 → ⊥) → judge_of budget m ≡ judged (verdict_of Problems budget m.st) m.out
   unfolding judge_of
   judge_stopped h = test_no (eqb m.st.stop 0) _ _ (ne_eqb m.st.stop 0 h)
 
-  judge_over : m.st.stop ≡ 0 → m.st.over ≡ true → judge_of budget m ≡ judged (verdict_of false budget m.st) m.out
+  judge_over : m.st.stop ≡ 0 → m.st.over ≡ true → judge_of budget m ≡ judged (verdict_of Problems budget m.st) m.out
   unfolding judge_of
   judge_over g o = test_yes (eqb m.st.stop 0) _ _ (eq-eqb m.st.stop 0 g) ∙ test_yes m.st.over _ _ o
 
-  judge_listed : m.st.stop ≡ 0 → m.st.over ≡ false → m.st.bytes ≢ 0 → judge_of budget m ≡ judged (verdict_of false budget m.st) m.out
+  judge_listed : m.st.stop ≡ 0 → m.st.over ≡ false → m.st.bytes ≢ 0 → judge_of budget m ≡ judged (verdict_of Problems budget m.st) m.out
   unfolding judge_of
   judge_listed g o b = test_yes (eqb m.st.stop 0) _ _ (eq-eqb m.st.stop 0 g) ∙ test_no m.st.over _ _ o ∙ test_no (eqb m.st.bytes 0) _ _ (ne_eqb m.st.bytes 0 b)
 
-  judge_typed : m.st.stop ≡ 0 → m.st.over ≡ false → m.st.bytes ≡ 0 → judge_of budget m ≡ judged (verdict_of true budget (write_answer_of m).st) (write_answer_of m).out
+  judge_typed : m.st.stop ≡ 0 → m.st.over ≡ false → m.st.bytes ≡ 0 → judge_of budget m ≡ judged (verdict_of Typed budget (write_answer_of m).st) (write_answer_of m).out
   unfolding judge_of then
   judge_typed g o b = test_yes (eqb m.st.stop 0) _ _ (eq-eqb m.st.stop 0 g) ∙ test_no m.st.over _ _ o ∙ test_yes (eqb m.st.bytes 0) _ _ (eq-eqb m.st.bytes 0 b)
 
   -- problems listed, whether they fit or not
-  listed : m.st.stop ≡ 0 → (m.st.over ≡ false → m.st.bytes ≡ 0 → ⊥) → (c : Bool) → m.st.over ≡ c → judge_of budget m ≡ judged (verdict_of false budget m.st) m.out
+  listed : m.st.stop ≡ 0 → (m.st.over ≡ false → m.st.bytes ≡ 0 → ⊥) → (c : Bool) → m.st.over ≡ c → judge_of budget m ≡ judged (verdict_of Problems budget m.st) m.out
   listed g n true e = judge_over g e
   listed g n false e = judge_listed g e (n e)
 
   pub judge_says : (o : Out U Outcome) → Concludes room m (write_answer_of m) o → Says room (answered budget room o) (judge_of budget m)
-  unfolding answered answer refused brief numbered told
-  judge_says (spent e) h = says_as room (refused 7 0) _ _ (judge_stopped (λ z. omega arith)) (record { tells = ap told (verdict-spent false budget m.st h); holds = refl; plain = λ z. omega arith })
-  judge_says (halt full e) h = says_as room (refused 6 0) _ _ (judge_stopped (λ z. omega arith)) (record { tells = ap told (verdict_full false budget m.st h); holds = refl; plain = λ z. omega arith })
+  unfolding answered answer refused brief number_of told
+  judge_says (spent e) h = says_as room (refused 7 0) _ _ (judge_stopped (λ z. omega arith)) (record { tells = ap told (verdict-spent Problems budget m.st h); holds = refl; plain = λ z. omega arith })
+  judge_says (halt full e) h = says_as room (refused 6 0) _ _ (judge_stopped (λ z. omega arith)) (record { tells = ap told (verdict_full Problems budget m.st h); holds = refl; plain = λ z. omega arith })
   judge_says (halt broken e) h = absurd h
-  judge_says (done (failed ps) r) h = says_as room _ _ _ (listed h.going h.some m.st.over refl) (final-says room budget r false (spell_problems ps) m.st m.out h.going h.left h.wrote)
+  judge_says (done (failed ps) r) h = says_as room _ _ _ (listed h.going h.some m.st.over refl) (final-says room budget r Problems (spell_problems ps) m.st m.out h.going h.left h.wrote)
   judge_says (done (typed es ts) r) h =
-      says_as room _ _ _ (judge_typed h.going h.inside h.none) (final-says room budget r true (spell_entries es ++ spell_slots ts) (write_answer_of m).st (write_answer_of m).out h.gone h.left h.wrote)
+      says_as room _ _ _ (judge_typed h.going h.inside h.none) (final-says room budget r Typed (spell_entries es ++ spell_slots ts) (write_answer_of m).st (write_answer_of m).out h.gone h.left h.wrote)
 
 -- ---- what is left behind: the answer's bytes and zeros; all zeros
 pub cleared-long : (n : ℕ) (l : List ℕ) → length (cleared n l) ≡ length l

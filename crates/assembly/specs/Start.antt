@@ -13,10 +13,11 @@ use Rattle.types.specs.Limits.{max_names, max_depth}
 use Rattle.simulation.specs.Relation.{Entered}
 use Rattle.simulation.specs.Decls.{below_up}
 use Rattle.simulation.specs.Whole.{Fresh}
-use Rattle.machine.specs.declared.State.{State}
+use Rattle.machine.specs.State.{State}
 use Rattle.machine.specs.Machine.{Mach, mach, cell, put_of}
 use Rattle.memory.specs.Memory.{cleared}
-use Rattle.runner.specs.Begin.{start_of, entered_from, entered_of}
+use Rattle.runner.specs.Begin.{entered_from, entered_of}
+use Rattle.machine.specs.Machine.{start_of}
 
 -- ---- what entering the types does to the book
 entered_state : (types : List ℕ) (x k : ℕ) (m : Mach) → (entered_from types x k m).st ≡ m.st

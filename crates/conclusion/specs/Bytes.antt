@@ -9,12 +9,12 @@ use Rattle.types.specs.Ty.{Ty}
 use Rattle.unification.specs.Arena.{read}
 use Rattle.unification.specs.Put.{Page, Sheet, put, lay, lay-length, lay-take, put-done, put_full}
 use Rattle.unification.specs.Put as P
-use Rattle.machine.specs.declared.State.{State}
+use Rattle.machine.specs.State.{State}
 use Rattle.forms.specs.Forms.{then}
 use Rattle.machine.specs.Machine.{Mach, bytes_of, over_of}
 use Rattle.finisher.specs.Finisher.{most, laid_by, spell_of}
 use Rattle.simulation.specs.Relation.{Wrote}
-use Rattle.simulation.specs.Stand.{test_yes, test_no}
+use Rattle.machine.specs.Still.{test_yes, test_no}
 use Rattle.simulation.specs.Output.{spoken, Spoke}
 
 -- the bytes of T are written where it is what is read

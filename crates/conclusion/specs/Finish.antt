@@ -17,12 +17,12 @@ use Rattle.walk.specs.Writer.{Met, Row}
 use Rattle.inference.specs.Answer.{Problem, spell_problem, spell_problems}
 use Rattle.inference.specs.Finish.{Question, Findings, ask, ask_name, names, Outcome, typed, failed, settled, test_slots, walk_problems, finish}
 use Rattle.inference.specs.Finish as F
-use Rattle.machine.specs.declared.State.{State}
+use Rattle.machine.specs.State.{State}
 use Rattle.forms.specs.Forms.{test, then}
 use Rattle.machine.specs.Machine.{Mach, cell, word_of}
 use Rattle.finisher.specs.Finisher.{settle_of, each_of, name_of, slot_of, test_names_of, test_slots_of, clean_of, finish_of}
 use Rattle.simulation.specs.Relation.{Wrote, Stands, Listed, Filled}
-use Rattle.simulation.specs.Stand.{test_yes, test_no}
+use Rattle.machine.specs.Still.{test_yes, test_no}
 use Rattle.simulation.specs.Output.{assoc}
 use Rattle.conclusion.specs.Tests.{ended, Halted, settle_still, each_still, Stood, stood_as, Tested, Asks, each_tests}
 

@@ -12,12 +12,12 @@ use Rattle.inference.specs.Answer.{Problem, spell_problem, spell_problems}
 use Rattle.inference.specs.Finish.{Finding, found, unsolved, Question, Findings, noted, ask}
 use Rattle.inference.specs.Finish as F
 use Rattle.inference.proofs.Cost as C
-use Rattle.machine.specs.declared.State.{State}
+use Rattle.machine.specs.State.{State}
 use Rattle.forms.specs.Forms.{then}
 use Rattle.machine.specs.Machine.{Mach, with_st, left_of, stopped_of, list_of}
 use Rattle.finisher.specs.Finisher.{told_by, settle_of, each_of}
 use Rattle.simulation.specs.Relation.{Wrote}
-use Rattle.simulation.specs.Stand.{test_yes, test_no}
+use Rattle.machine.specs.Still.{test_yes, test_no}
 use Rattle.simulation.specs.Steps.{nil_right}
 use Rattle.simulation.specs.Output.{assoc, Spoke, list_spoke}
 

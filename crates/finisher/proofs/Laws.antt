@@ -1,71 +1,69 @@
--- Laws that the proofs of the finish cite: what the answers of the test and of the writer do to the machine, and one turn of a row's loop.
-use Rattle.std.proofs.Common.{ℕ, suc, ◌+◌, ◌-◌, ◌≤◌, ◌<◌, sym, arith, ◌≡◌, ap, ◌∙◌, Bool, List, take, drop}
+-- Laws that the proofs of the finish cite: what the answers of the test and of the writer do to the machine and the turns of a row's loop.
+use Rattle.std.proofs.Common.{ℕ, zero, suc, ◌+◌, ◌-◌, ◌≤◌, ◌<◌, sym, arith, ◌≡◌, ap, ◌∙◌, refl, Bool, true, false, List, eqb, ne_eqb}
+use Rattle.std.specs.Prelude.{Result, Ok, Err}
 use Rattle.meter.specs.Meter.{Out}
 use Rattle.unification.specs.Arena as A
 use Rattle.unification.specs.Put as P
-use Rattle.unifier.specs.declared.Told.TheVariants as To
+use Rattle.unifier.specs.declared.Halt.{Halt}
+use Rattle.unifier.specs.declared.Halt.TheVariants as Ha
 use Rattle.unifier.specs.Answers.{told}
-use Rattle.write.specs.declared.Wrote.TheVariants as Wr
+use Rattle.write.specs.declared.WriteError.{WriteError}
+use Rattle.write.specs.declared.WriteError.TheVariants as Wr
 use Rattle.write.specs.Answers.{laid}
-use Rattle.machine.specs.declared.State.{State}
-use Rattle.forms.specs.Forms.{then}
-use Rattle.machine.specs.Machine.{Mach, mach, whole, left_of, stopped_of, bytes_of, over_of, list_of}
-use Rattle.finisher.specs.Finisher.{told_by, laid_by, each_of}
+use Rattle.forms.specs.Forms.{test, then}
+use Rattle.machine.specs.Machine.{Mach, cell, word_of, on_st, left_of, stopped_of, bytes_of, over_of, list_of, emit_of, two_of, four_of}
+use Rattle.machine.specs.Still.{Halted, test_no, test_eq, still_emit, still_two, still_four}
+use Rattle.machine.specs.declared.Machine.{Machine}
+use Rattle.machine.specs.Seen.{machine, halted, stop_number}
+use Rattle.finisher.specs.Finisher.{most, told_by, settle_of, name_of, slot_of, laid_by, spell_of, entry_of, type_of, each_of, test_slots_of, write_slots_of}
 
 -- ---- the test's answers
-module _ (size : ℕ) (v r : State) (w out : List ℕ) where
-  pub told_yes : (l q p x : ℕ) (o : Out A.U Bool) → told (To.Yes l) ≡ o → r ≡ left_of l v → mach size r w out ≡ told_by o q p x (mach size v w out)
-  unfolding told_by then
-  told_yes l q p x o e h = ap (λ (y : State). mach size y w out) h ∙ ap (λ (y : Out A.U Bool). told_by y q p x (mach size v w out)) e
+abbrev pub told_next : Result Bool Halt → ℕ → ℕ → ℕ → ℕ → Mach → Mach
+told_next (Ok true) l q p x m = on_st (left_of l) m
+told_next (Ok false) l q p x m = list_of q p x (on_st (left_of l) m)
+told_next (Err h) l q p x m = on_st (stopped_of (stop_number (halted h))) m
 
-  pub told-spent : (q p x : ℕ) (o : Out A.U Bool) → told To.Spent ≡ o → r ≡ stopped_of 7 v → mach size r w out ≡ told_by o q p x (mach size v w out)
-  unfolding told_by then
-  told-spent q p x o e h = ap (λ (y : State). mach size y w out) h ∙ ap (λ (y : Out A.U Bool). told_by y q p x (mach size v w out)) e
+by_told : (r : Result Bool Halt) (l q p x : ℕ) (m : Mach) → told_by (told r l) q p x m ≡ told_next r l q p x m
+unfolding told_by then
+by_told (Ok true) l q p x m = refl
+by_told (Ok false) l q p x m = refl
+by_told (Err Ha.Spent) l q p x m = refl
+by_told (Err Ha.Broken) l q p x m = refl
 
-  pub told_broken : (q p x : ℕ) (o : Out A.U Bool) → told To.Broken ≡ o → r ≡ stopped_of 2 v → mach size r w out ≡ told_by o q p x (mach size v w out)
-  unfolding told_by then
-  told_broken q p x o e h = ap (λ (y : State). mach size y w out) h ∙ ap (λ (y : Out A.U Bool). told_by y q p x (mach size v w out)) e
-
-  -- a problem listed: z is the state after it, and page the output
-  pub told_no : (z : State) (page : List ℕ) (l q p x : ℕ) (o : Out A.U Bool) → told (To.No l) ≡ o → r ≡ left_of l v
-      → whole z (take size w) (drop size w) page ≡ list_of q p x (whole r (take size w) (drop size w) out) → mach size z w page ≡ told_by o q p x (mach size v w out)
-  unfolding told_by then
-  told_no z page l q p x o e h k = k ∙ ap (λ (y : State). list_of q p x (mach size y w out)) h ∙ ap (λ (y : Out A.U Bool). told_by y q p x (mach size v w out)) e
+pub settles : (m : Machine) (t q p x : ℕ) (r : Result Bool Halt) (l : ℕ) → told r l ≡ A.solved (machine m).arena m.nodes t m.budget → settle_of t q p x (machine m) ≡ told_next r l q p x (machine m)
+unfolding settle_of test
+settles m t q p x r l e = ap (λ (o : Out A.U Bool). told_by o q p x (machine m)) (sym e) ∙ by_told r l q p x (machine m)
 
 -- ---- the writer's answers: page is the output after it
-module _ (size : ℕ) (v r : State) (w out page : List ℕ) where
-  pub laid-at : (n l : ℕ) (o : Out P.Page P.Sheet) → laid (Wr.At n l) page ≡ o → r ≡ bytes_of n v → mach size r w page ≡ laid_by o (mach size v w out)
-  unfolding laid_by then
-  laid-at n l o e h = ap (λ (y : State). mach size y w page) h ∙ ap (λ (y : Out P.Page P.Sheet). laid_by y (mach size v w out)) e
+abbrev pub paged : List ℕ → Mach → Mach
+paged page m = record { st = m.st; arena = m.arena; book = m.book; out = page }
 
-  pub laid_full : (o : Out P.Page P.Sheet) → laid Wr.Full page ≡ o → r ≡ over_of v → mach size r w page ≡ laid_by o (mach size v w out)
-  unfolding laid_by then
-  laid_full o e h = ap (λ (y : State). mach size y w page) h ∙ ap (λ (y : Out P.Page P.Sheet). laid_by y (mach size v w out)) e
+abbrev pub laid_next : Result ℕ WriteError → Mach → Mach
+laid_next (Ok n) m = on_st (bytes_of n) m
+laid_next (Err Wr.Full) m = on_st over_of m
+laid_next (Err Wr.Spent) m = on_st (stopped_of 2) m
+laid_next (Err Wr.Broken) m = on_st (stopped_of 2) m
 
-  pub laid-spent : (o : Out P.Page P.Sheet) → laid Wr.Spent page ≡ o → r ≡ stopped_of 2 v → mach size r w page ≡ laid_by o (mach size v w out)
-  unfolding laid_by then
-  laid-spent o e h = ap (λ (y : State). mach size y w page) h ∙ ap (λ (y : Out P.Page P.Sheet). laid_by y (mach size v w out)) e
+by_laid : (r : Result ℕ WriteError) (l : ℕ) (page : List ℕ) (m : Mach) → laid_by (laid r l page) m ≡ laid_next r (paged page m)
+unfolding laid_by then
+by_laid (Ok n) l page m = refl
+by_laid (Err Wr.Full) l page m = refl
+by_laid (Err Wr.Spent) l page m = refl
+by_laid (Err Wr.Broken) l page m = refl
 
-  pub laid_broken : (o : Out P.Page P.Sheet) → laid Wr.Broken page ≡ o → r ≡ stopped_of 2 v → mach size r w page ≡ laid_by o (mach size v w out)
-  unfolding laid_by then
-  laid_broken o e h = ap (λ (y : State). mach size y w page) h ∙ ap (λ (y : Out P.Page P.Sheet). laid_by y (mach size v w out)) e
+pub spells : (m : Machine) (t : ℕ) (r : Result ℕ WriteError) (l : ℕ) (page : List ℕ) → m.over ≡ false → laid r l page ≡ P.put (machine m).arena m.nodes (m.output.now, m.bytes, t) most
+    → spell_of t (machine m) ≡ laid_next r (paged page (machine m))
+unfolding spell_of
+spells m t r l page o e =
+    test_eq 0 0 _ _ refl ∙ test_no m.over _ _ o ∙ ap (λ (x : Out P.Page P.Sheet). laid_by x (machine m)) (sym e) ∙ by_laid r l page (machine m)
 
--- ---- rows
-module _ (f : ℕ → Mach → Mach) where
-  pub each_none : (u i : ℕ) (m : Mach) → u ≤ i → each_of f (u - i) i m ≡ m
-  unfolding each_of
-  each_none u i m l = let e : u - i ≡ 0 = omega arith in rw e
+-- ---- rows, by the turns that are left
+pub each_end : (f : ℕ → Mach → Mach) (u i : ℕ) (m : Mach) → u ≤ i → each_of f (u - i) i m ≡ m
+unfolding each_of
+each_end f u i m l = let e : u - i ≡ 0 = omega arith in rw e
 
-  -- all of them
-  pub each_start : (u : ℕ) (m : Mach) → each_of f (u - 0) 0 m ≡ each_of f u 0 m
-  each_start u m = let e : u - 0 ≡ u = omega arith in ap (λ (n : ℕ). each_of f n 0 m) e
+pub each_turn : (f : ℕ → Mach → Mach) (u i : ℕ) (m : Mach) → i < u → each_of f (u - i) i m ≡ each_of f (u - (i + 1)) (i + 1) (f i m)
+unfolding each_of
+each_turn f u i m l = let e : u - i ≡ suc (u - (i + 1)) = omega arith in rw e
 
-  each-suc : (n k i : ℕ) (m : Mach) → n ≡ suc k → each_of f n i m ≡ each_of f k (i + 1) (f i m)
-  unfolding each_of
-  each-suc n k i m e = rw e
-
-  -- one turn of the loop: number i, of those up to u
-  pub each_more : (u i : ℕ) (m x z : Mach) → i < u → x ≡ f i m → each_of f (u - i) i m ≡ z → each_of f (u - (i + 1)) (i + 1) x ≡ z
-  each_more u i m x z l e q =
-      let k : u - i ≡ suc (u - (i + 1)) = omega arith in
-      ap (each_of f (u - (i + 1)) (i + 1)) e ∙ sym (each-suc (u - i) (u - (i + 1)) i m k) ∙ q
+pub ruleset turns = (each_end, each_turn)

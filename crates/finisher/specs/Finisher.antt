@@ -5,7 +5,7 @@ use Rattle.std.specs.Prelude.{ℕ, zero, suc, ◌+◌, Bool, true, false, eqb}
 use Rattle.meter.specs.Meter.{Out, spent, halt, done, broken, full}
 use Rattle.unification.specs.Arena as A
 use Rattle.unification.specs.Put as P
-use Rattle.machine.specs.declared.State.{State}
+use Rattle.machine.specs.State.{State}
 use Rattle.forms.specs.Forms.{test, then}
 use Rattle.machine.specs.Machine.{Mach, with_st, cell, word_of, left_of, stopped_of, bytes_of, over_of, emit_of, two_of, four_of, list_of}
 

@@ -1,1 +1,2 @@
 pub mod Finisher
+pub mod Still

@@ -2,206 +2,205 @@
 // the output.
 #![tactic(auto)]
 
-ghost use Rattle.std.specs.Prelude.{◌≡◌, ℕ, ◌≤◌, take};
+ghost use Rattle.std.specs.Prelude.{◌≡◌, take};
 ghost use Rattle.unification.specs.Put.{put};
 ghost use Rattle.write.specs.Answers.{laid};
-ghost use Rattle.machine.specs.Machine.{mach, smaller};
-ghost use Rattle.finisher.specs.Finisher.{most, settle_of, name_of, slot_of, test_names_of, test_slots_of, clean_of, finish_of, spell_of, entry_of, type_of, write_names_of, write_slots_of, write_answer_of};
+ghost use Rattle.machine.specs.Seen.{machine, walked, problem_number, name_number, Kept};
+ghost use Rattle.finisher.specs.Finisher.{settle_of, name_of, slot_of, test_names_of, test_slots_of, clean_of, finish_of, spell_of, entry_of, type_of, write_names_of, write_slots_of, write_answer_of};
 
-use machine::State;
+use machine::{Machine, Problem, Stop};
 use types::{Name, NodeRef, Place};
-use unifier::Told;
-use write::Wrote;
+use write::WriteError;
 
 // ---- unknowns
 
 // A reference with an unknown is a problem at its place.
 fn settle(
-    work: &[u32],
-    output: &mut [u8],
-    size: u32,
+    walk: &mut Machine,
     t: NodeRef,
-    problem: u8,
+    problem: Problem,
     place: Place,
-    name: Name,
-    st: State,
-) -> State
-    ensures { mach size result work.now output.new ≡ settle_of t.0 problem place.0 name.0 (mach size st work.now output.old) }
+    name: Option<Name>,
+) -> Result<(), Stop>
+    ensures value { walked result walk.new ≡ settle_of t.0 (problem_number problem) place.0 (name_number name) (machine walk.old) }
+    ensures kept { Kept walk.old walk.new }
 {
-    if st.stop != 0 {
-        return st;
+    let mut left = walk.budget;
+    let solved = walk.solved(t, &mut left)?;
+    walk.budget = left;
+    if !solved {
+        walk.list(problem, place, name);
     }
-    let found = machine::solved(work, size, st.nodes, t, st.budget);
-    match found {
-        Told::Yes(left) => machine::left_with(left, st),
-        Told::No(left) => machine::list(output, problem, place, name, machine::left_with(left, st)),
-        Told::Spent => machine::stopped(7, st),
-        Told::Broken => machine::stopped(2, st),
-    }
+    Ok(())
 }
 
 // Entry j of the names met.
-fn name(work: &[u32], output: &mut [u8], size: u32, j: u32, st: State) -> State
-    ensures { mach size result work.now output.new ≡ name_of j (mach size st work.now output.old) }
+#[tactic(auto, using(machine::specs::Seen::still, machine::specs::Still::tests, crate::specs::Still::still), unfolding(crate::specs::Finisher::name_of, forms::specs::Forms::then))]
+fn name(walk: &mut Machine, j: u32) -> Result<(), Stop>
+    ensures value { walked result walk.new ≡ name_of j (machine walk.old) }
+    ensures kept { Kept walk.old walk.new }
 {
-    let x = machine::read(work, size, machine::ROW, 3, j, 0);
-    let t = machine::read(work, size, machine::ROW, 3, j, 1);
-    let p = machine::read(work, size, machine::ROW, 3, j, 2);
-    settle(work, output, size, NodeRef(t), 3, Place(p), Name(x), st)
-}
-
-// Slot j.
-fn slot(work: &[u32], output: &mut [u8], size: u32, j: u32, st: State) -> State
-    ensures { mach size result work.now output.new ≡ slot_of j (mach size st work.now output.old) }
-{
-    let t = machine::read(work, size, machine::SLOTS, 2, j, 0);
-    let p = machine::read(work, size, machine::SLOTS, 2, j, 1);
+    let x = walk.read(machine::ROW, j, 0);
+    let t = walk.read(machine::ROW, j, 1);
+    let p = walk.read(machine::ROW, j, 2);
     settle(
-        work,
-        output,
-        size,
+        walk,
         NodeRef(t),
-        2,
+        Problem::UntypedName,
         Place(p),
-        Name(machine::NO_NAME),
-        st,
+        Some(Name(x)),
     )
 }
 
-// The names met, in order.
-fn test_names(work: &[u32], output: &mut [u8], size: u32, st: State) -> State
-    ensures { mach size result work.now output.new ≡ test_names_of (mach size st work.now output.old) }
+// Slot j.
+#[tactic(auto, using(machine::specs::Seen::still, machine::specs::Still::tests, crate::specs::Still::still), unfolding(crate::specs::Finisher::slot_of, forms::specs::Forms::then))]
+fn slot(walk: &mut Machine, j: u32) -> Result<(), Stop>
+    ensures value { walked result walk.new ≡ slot_of j (machine walk.old) }
+    ensures kept { Kept walk.old walk.new }
 {
-    let mut v = st;
-    let mut j: u32 = 0;
-    while j < st.met {
-        v = name(work, output, size, j, v);
-        j += 1;
+    let t = walk.read(machine::SLOTS, j, 0);
+    let p = walk.read(machine::SLOTS, j, 1);
+    settle(walk, NodeRef(t), Problem::UntypedExpression, Place(p), None)
+}
+
+// The names met, in order.
+#[tactic(auto, using(machine::specs::Seen::still, machine::specs::Still::tests, crate::specs::Still::still, crate::proofs::Laws::turns), unfolding(crate::specs::Finisher::test_names_of, forms::specs::Forms::then))]
+fn test_names(walk: &mut Machine) -> Result<(), Stop>
+    ensures value { walked result walk.new ≡ test_names_of (machine walk.old) }
+    ensures kept { Kept walk.old walk.new }
+{
+    for j in 0..walk.met {
+        name(walk, j)?;
     }
-    v
+    Ok(())
 }
 
 // The slots, in order.
-fn test_slots(work: &[u32], output: &mut [u8], size: u32, st: State) -> State
-    ensures { mach size result work.now output.new ≡ test_slots_of (mach size st work.now output.old) }
+#[tactic(auto, using(machine::specs::Seen::still, machine::specs::Still::tests, crate::specs::Still::still, crate::proofs::Laws::turns), unfolding(crate::specs::Finisher::test_slots_of, forms::specs::Forms::then))]
+fn test_slots(walk: &mut Machine) -> Result<(), Stop>
+    ensures value { walked result walk.new ≡ test_slots_of (machine walk.old) }
+    ensures kept { Kept walk.old walk.new }
 {
-    let mut v = st;
-    let mut j: u32 = 0;
-    while j < st.slots {
-        v = slot(work, output, size, j, v);
-        j += 1;
+    for j in 0..walk.slots {
+        slot(walk, j)?;
     }
-    v
+    Ok(())
 }
 
 // Whether nothing is listed.
-fn clean(st: State) -> bool
-    ensures { result ≡ clean_of st }
+#[tactic(auto, using(machine::specs::Seen::still, machine::specs::Still::tests, crate::specs::Still::still), unfolding(crate::specs::Finisher::clean_of, forms::specs::Forms::then))]
+fn clean(walk: &Machine) -> bool
+    ensures { result ≡ clean_of (machine walk.now).st }
 {
-    if st.over {
-        return false;
-    }
-    st.bytes == 0
+    !walk.over && walk.bytes == 0
 }
 
 // Names are tested; then slots, where nothing is listed.
-pub fn finish(work: &[u32], output: &mut [u8], size: u32, st: State) -> State
-    ensures { mach size result work.now output.new ≡ finish_of (mach size st work.now output.old) }
+#[tactic(auto, using(machine::specs::Seen::still, machine::specs::Still::tests, crate::specs::Still::still), unfolding(crate::specs::Finisher::finish_of, forms::specs::Forms::then))]
+pub fn finish(walk: &mut Machine) -> Result<(), Stop>
+    ensures value { walked result walk.new ≡ finish_of (machine walk.old) }
+    ensures kept { Kept walk.old walk.new }
 {
-    let a = test_names(work, output, size, st);
-    if clean(a) {
-        return test_slots(work, output, size, a);
+    test_names(walk)?;
+    if clean(walk) {
+        return test_slots(walk);
     }
-    a
+    Ok(())
 }
 
 // ---- types
 
-fn within(size: u32, most: usize) -> usize
-    ensures value { result ≡ smaller size most }
-    ensures upper_bound { result ≤ most }
+// The arena is lent to the writer.
+fn lay(
+    work: &[u32],
+    size: u32,
+    count: u32,
+    output: &mut [u8],
+    at: usize,
+    t: NodeRef,
+    left: &mut u64,
+) -> Result<usize, WriteError>
+    ensures { laid result left.new output.new ≡ put (take size work.now) count (output.old, at, t.0) left.old }
 {
-    let n = size as usize;
-    if n < most { n } else { most }
+    write::put(machine::arena(work, size), count, output, at, t, left)
 }
 
-// The arena is lent to the writer, with a budget that every test was within.
-fn lay(work: &[u32], output: &mut [u8], size: u32, count: u32, at: usize, t: NodeRef) -> Wrote
-    ensures { laid result output.new ≡ put (take size work.now) count (output.old, at, t.0) most }
+// The type at a reference is written after the bytes so far, with a budget that every test was within.
+fn spell(walk: &mut Machine, t: NodeRef) -> Result<(), Stop>
+    ensures value { walked result walk.new ≡ spell_of t.0 (machine walk.old) }
+    ensures kept { Kept walk.old walk.new }
 {
-    let n = within(size, work.len());
-    write::put(&work[..n], count, output, at, t, 18446744073709551615)
-}
-
-// The type at a reference is written after the bytes so far.
-fn spell(work: &[u32], output: &mut [u8], size: u32, t: NodeRef, st: State) -> State
-    ensures { mach size result work.now output.new ≡ spell_of t.0 (mach size st work.now output.old) }
-{
-    if st.stop != 0 {
-        return st;
+    if walk.over {
+        return Ok(());
     }
-    if st.over {
-        return st;
+    let mut left = u64::MAX;
+    let (size, count, at) = (walk.size, walk.nodes, walk.bytes);
+    // the check lends one field of a borrowed struct at a time
+    let work = std::mem::take(&mut walk.work);
+    let laid = lay(work, size, count, walk.output, at, t, &mut left);
+    walk.work = work;
+    match laid {
+        Ok(end) => walk.bytes = end,
+        Err(WriteError::Full) => walk.over = true,
+        Err(WriteError::Spent | WriteError::Broken) => return Err(Stop::Broken),
     }
-    let wrote = lay(work, output, size, st.nodes, st.bytes, t);
-    match wrote {
-        Wrote::At(end, _) => machine::written(end, st),
-        Wrote::Full => machine::overfull(st),
-        Wrote::Spent => machine::stopped(2, st),
-        Wrote::Broken => machine::stopped(2, st),
-    }
+    Ok(())
 }
 
 // 50: name j and its type.
-fn entry(work: &[u32], output: &mut [u8], size: u32, j: u32, st: State) -> State
-    ensures { mach size result work.now output.new ≡ entry_of j (mach size st work.now output.old) }
+#[tactic(auto, using(machine::specs::Seen::still, machine::specs::Still::tests, crate::specs::Still::still), unfolding(crate::specs::Finisher::entry_of, forms::specs::Forms::then))]
+fn entry(walk: &mut Machine, j: u32) -> Result<(), Stop>
+    ensures value { walked result walk.new ≡ entry_of j (machine walk.old) }
+    ensures kept { Kept walk.old walk.new }
 {
-    let x = machine::read(work, size, machine::ROW, 3, j, 0);
-    let t = machine::read(work, size, machine::ROW, 3, j, 1);
-    let a = machine::emit(output, 0x50, st);
-    let b = machine::emit_two(output, x, a);
-    spell(work, output, size, NodeRef(t), b)
+    let x = walk.read(machine::ROW, j, 0);
+    let t = walk.read(machine::ROW, j, 1);
+    walk.emit(0x50);
+    walk.emit_two(x);
+    spell(walk, NodeRef(t))
 }
 
 // 51: the place of slot j and its type.
-fn slot_type(work: &[u32], output: &mut [u8], size: u32, j: u32, st: State) -> State
-    ensures { mach size result work.now output.new ≡ type_of j (mach size st work.now output.old) }
+#[tactic(auto, using(machine::specs::Seen::still, machine::specs::Still::tests, crate::specs::Still::still), unfolding(crate::specs::Finisher::type_of, forms::specs::Forms::then))]
+fn slot_type(walk: &mut Machine, j: u32) -> Result<(), Stop>
+    ensures value { walked result walk.new ≡ type_of j (machine walk.old) }
+    ensures kept { Kept walk.old walk.new }
 {
-    let t = machine::read(work, size, machine::SLOTS, 2, j, 0);
-    let p = machine::read(work, size, machine::SLOTS, 2, j, 1);
-    let a = machine::emit(output, 0x51, st);
-    let b = machine::emit_four(output, p, a);
-    spell(work, output, size, NodeRef(t), b)
+    let t = walk.read(machine::SLOTS, j, 0);
+    let p = walk.read(machine::SLOTS, j, 1);
+    walk.emit(0x51);
+    walk.emit_four(p);
+    spell(walk, NodeRef(t))
 }
 
-fn write_names(work: &[u32], output: &mut [u8], size: u32, st: State) -> State
-    ensures { mach size result work.now output.new ≡ write_names_of (mach size st work.now output.old) }
+#[tactic(auto, using(machine::specs::Seen::still, machine::specs::Still::tests, crate::specs::Still::still, crate::proofs::Laws::turns), unfolding(crate::specs::Finisher::write_names_of, forms::specs::Forms::then))]
+fn write_names(walk: &mut Machine) -> Result<(), Stop>
+    ensures value { walked result walk.new ≡ write_names_of (machine walk.old) }
+    ensures kept { Kept walk.old walk.new }
 {
-    let mut v = st;
-    let mut j: u32 = 0;
-    while j < st.met {
-        v = entry(work, output, size, j, v);
-        j += 1;
+    for j in 0..walk.met {
+        entry(walk, j)?;
     }
-    v
+    Ok(())
 }
 
-fn write_slots(work: &[u32], output: &mut [u8], size: u32, st: State) -> State
-    ensures { mach size result work.now output.new ≡ write_slots_of (mach size st work.now output.old) }
+#[tactic(auto, using(machine::specs::Seen::still, machine::specs::Still::tests, crate::specs::Still::still, crate::proofs::Laws::turns), unfolding(crate::specs::Finisher::write_slots_of, forms::specs::Forms::then))]
+fn write_slots(walk: &mut Machine) -> Result<(), Stop>
+    ensures value { walked result walk.new ≡ write_slots_of (machine walk.old) }
+    ensures kept { Kept walk.old walk.new }
 {
-    let mut v = st;
-    let mut j: u32 = 0;
-    while j < st.slots {
-        v = slot_type(work, output, size, j, v);
-        j += 1;
+    for j in 0..walk.slots {
+        slot_type(walk, j)?;
     }
-    v
+    Ok(())
 }
 
 // The types of names and slots are written, after the bytes so far.
-pub fn write_answer(work: &[u32], output: &mut [u8], size: u32, st: State) -> State
-    ensures { mach size result work.now output.new ≡ write_answer_of (mach size st work.now output.old) }
+#[tactic(auto, using(machine::specs::Seen::still, machine::specs::Still::tests, crate::specs::Still::still), unfolding(crate::specs::Finisher::write_answer_of, forms::specs::Forms::then))]
+pub fn write_answer(walk: &mut Machine) -> Result<(), Stop>
+    ensures value { walked result walk.new ≡ write_answer_of (machine walk.old) }
+    ensures kept { Kept walk.old walk.new }
 {
-    let a = write_names(work, output, size, st);
-    write_slots(work, output, size, a)
+    write_names(walk)?;
+    write_slots(walk)
 }

@@ -1,20 +1,18 @@
 -- What the bytes of an environment spell, read entry by entry: its entries, or the first fault.
 -- At one entry a byte other than 50, a cut body, a name at or above the count and a name that already has an entry come first, then its type's faults.
 -- After this file a reader knows which streams are environments, and what the table of places says.
-use Rattle.std.specs.Prelude.{ℕ, zero, suc, ◌+◌, ◌<◌, ◌≡◌, List, [], ◌∷◌, ◌++◌, length, get_or, set, ltb, eqb}
+use Rattle.std.specs.Prelude.{ℕ, zero, suc, ◌+◌, ◌<◌, ◌≡◌, List, [], ◌∷◌, ◌++◌, length, get_or, set, ltb, eqb, Option, Some, None}
 use Rattle.types.specs.declared.Place.{Place}
 use Rattle.types.specs.Record.{TypeAt, got, malformed, deep, type_at}
-use Rattle.heads.specs.declared.Word.{Word}
-use Rattle.heads.specs.declared.Word.TheVariants as W
-use Rattle.formula.specs.declared.Fault.TheVariants.{Malformed, Beyond}
+use Rattle.types.specs.declared.Fault.TheVariants.{Malformed, Beyond}
 use Rattle.formula.specs.Environment.{Entry, lacks, holds, Entries, lookup, spell_entry}
-use Rattle.heads.specs.Heads.{pick, place, byte_at, on_byte, name_at}
+use Rattle.heads.specs.Heads.{pick, place, byte_at, on_part, name_at}
 use Rattle.formula.specs.Parse.{Parsed, parsed, too_long, faulty}
 use Rattle.types.specs.Limits.{max_bytes, max_depth, max_names}
 
 -- an entry's head: 50 and a name below the count
-unfoldable pub entry_at : ℕ → List ℕ → Place → Word
-entry_at names s p = on_byte W.Missing (byte_at s p) λ k q. pick (eqb k 0x50) (name_at names s q) W.Missing
+unfoldable pub entry_at : ℕ → List ℕ → Place → Option (ℕ × Place)
+entry_at names s p = on_part None (byte_at s p) λ k q. pick (eqb k 0x50) (name_at names s q) None
 
 -- the type of the name n; k reads on after it
 unfoldable pub typed_by : (Entries → ℕ → Parsed Entries) → Entries → ℕ → TypeAt → Parsed Entries
@@ -27,9 +25,9 @@ unfoldable pub fresh_by : ℕ → List ℕ → (Entries → ℕ → Parsed Entri
 fresh_by names s k seen p n e (holds t) = faulty (Malformed (place p))
 fresh_by names s k seen p n e lacks = typed_by k seen n (type_at max_depth names s e.0)
 
-unfoldable pub entry_by : ℕ → List ℕ → (Entries → ℕ → Parsed Entries) → Entries → ℕ → Word → Parsed Entries
-entry_by names s k seen p W.Missing = faulty (Malformed (place p))
-entry_by names s k seen p (W.Of n e) = fresh_by names s k seen p n e (lookup seen n)
+unfoldable pub entry_by : ℕ → List ℕ → (Entries → ℕ → Parsed Entries) → Entries → ℕ → Option (ℕ × Place) → Parsed Entries
+entry_by names s k seen p None = faulty (Malformed (place p))
+entry_by names s k seen p (Some (n, e)) = fresh_by names s k seen p n e (lookup seen n)
 
 -- the entries from p on, after those seen; turns: as many as there can be
 unfoldable pub entries_from : ℕ → ℕ → List ℕ → Entries → ℕ → Parsed Entries

@@ -3,7 +3,7 @@ pub mod Environment
 pub mod Spell
 pub mod Reader
 pub mod Parse
+pub mod Steps
 pub mod EnvParse
 pub mod EnvTold
-pub mod Steps
 pub mod EnvSteps

@@ -1,29 +1,21 @@
 -- What the bytes of a stream spell, read from left to right: the tree, or the first fault.
 -- `left` is how many levels of records may still be opened, this record's own included. At one record a malformed head comes first,
 -- then the limits (depth, slots, open declarations), then the children in stream order.
-use Rattle.std.specs.Prelude.{ℕ, zero, suc, Bool, true, false, List, [], ◌∷◌, length, ltb, eqb}
+use Rattle.std.specs.Prelude.{ℕ, zero, suc, Bool, true, false, List, [], ◌∷◌, length, ltb, eqb, Option, Some, None, Result, Ok, Err}
 use Rattle.types.specs.declared.Place.{Place}
-use Rattle.heads.specs.declared.Word.{Word}
-use Rattle.heads.specs.declared.Word.TheVariants as W
 use Rattle.heads.specs.declared.ExprHead.{ExprHead}
 use Rattle.heads.specs.declared.ExprHead.TheVariants.{Free, Bound, Literal, Atomic, Extension, Truth, Binary, Associative, Unary, Quantified, Ascribed, Explicit}
 use Rattle.heads.specs.declared.PredHead.{PredHead}
 use Rattle.heads.specs.declared.PredHead.TheVariants.{Constant, Variable, Relational, Connective, Junction, Negation, Quantification, Simple, Multiple, Application}
 use Rattle.heads.specs.declared.DeclHead.{DeclHead}
 use Rattle.heads.specs.declared.DeclHead.TheVariants.{Plain, Typed, Annotated}
-use Rattle.heads.specs.declared.ExprAt.{ExprAt}
-use Rattle.heads.specs.declared.ExprAt.TheVariants as E
-use Rattle.heads.specs.declared.PredAt.{PredAt}
-use Rattle.heads.specs.declared.PredAt.TheVariants as P
-use Rattle.heads.specs.declared.DeclAt.{DeclAt}
-use Rattle.heads.specs.declared.DeclAt.TheVariants as D
 use Rattle.formula.specs.declared.St.{St}
-use Rattle.formula.specs.declared.Fault.{Fault}
-use Rattle.formula.specs.declared.Fault.TheVariants.{Malformed, Beyond}
-use Rattle.formula.specs.declared.Form.{Form}
-use Rattle.formula.specs.declared.Form.TheVariants.{Good, TooLong, Bad}
+use Rattle.types.specs.declared.Fault.{Fault}
+use Rattle.types.specs.declared.Fault.TheVariants.{Malformed, Beyond}
+use Rattle.formula.specs.declared.FormError.{FormError}
+use Rattle.formula.specs.declared.FormError.TheVariants.{TooLong, At}
 use Rattle.formula.specs.Tree.{Decl, plain, typed, annotated, Expr, free, bound, literal, atomic, extension, truth, binary, associative, unary, quantified, ascribed, explicit, Exprs, none, more, Pred, constant, variable, relational, connective, junction, negation, quantification, simple, multiple, application, Preds, end, also, Target, Formula, expression, predicate, becomes, becomes_in, becomes_such}
-use Rattle.heads.specs.Heads.{pick, place, byte_at, on_byte, few_at, expr_head, pred_head, decl_head, target_at}
+use Rattle.heads.specs.Heads.{pick, place, byte_at, on_part, few_at, expr_head, pred_head, decl_head, target_at}
 use Rattle.formula.specs.Reader.{Got, ok, bad, and_then, on_next, many, moved, own_of, declare_of, closing, type_in, spelling_in}
 use Rattle.types.specs.Limits.{max_bytes, max_depth, levels}
 
@@ -35,10 +27,10 @@ decl_by names s left st (Typed e) = on_next (declare_of e st) λ st₁. and_then
 decl_by names s left st (Annotated e) = on_next (declare_of e st) λ st₁. and_then (spelling_in names s left st₁) λ x st₂. ok st₂ (annotated st.at.0 x)
 
 -- a record by its head, where some levels are left, or none
-unfoldable pub decl_if : ℕ → List ℕ → ℕ → St → DeclAt → Got Decl
-decl_if names s left st D.Wrong = bad (Malformed st.at)
-decl_if names s zero st (D.Is h) = bad (Beyond st.at)
-decl_if names s (suc left) st (D.Is h) = decl_by names s left st h
+unfoldable pub decl_if : ℕ → List ℕ → ℕ → St → Option DeclHead → Got Decl
+decl_if names s left st None = bad (Malformed st.at)
+decl_if names s zero st (Some h) = bad (Beyond st.at)
+decl_if names s (suc left) st (Some h) = decl_by names s left st h
 
 unfoldable pub decl_at : ℕ → List ℕ → ℕ → St → Got Decl
 decl_at names s left st = decl_if names s left st (decl_head s st.at)
@@ -76,22 +68,22 @@ module _ (names : ℕ) (s : List ℕ) (left : ℕ) (X : Bool → St → Got Expr
   pred_by (Multiple n e) = and_then (many none more (X false) n (moved e st)) λ es st₁. ok st₁ (multiple st.at.0 es)
   pred_by (Application n e) = and_then (many none more (X false) n (moved e st)) λ es st₁. ok st₁ (application st.at.0 es)
 
-  unfoldable pub expr_if : ExprAt → Got Expr
-  expr_if E.Wrong = bad (Malformed st.at)
-  expr_if (E.Is h) = expr_by h
+  unfoldable pub expr_if : Option ExprHead → Got Expr
+  expr_if None = bad (Malformed st.at)
+  expr_if (Some h) = expr_by h
 
-  unfoldable pub pred_if : PredAt → Got Pred
-  pred_if P.Wrong = bad (Malformed st.at)
-  pred_if (P.Is h) = pred_by h
+  unfoldable pub pred_if : Option PredHead → Got Pred
+  pred_if None = bad (Malformed st.at)
+  pred_if (Some h) = pred_by h
 
 -- no level is left: a record that is well formed itself passes the limit
-unfoldable pub expr_deep : St → ExprAt → Got Expr
-expr_deep st E.Wrong = bad (Malformed st.at)
-expr_deep st (E.Is h) = bad (Beyond st.at)
+unfoldable pub expr_deep : St → Option ExprHead → Got Expr
+expr_deep st None = bad (Malformed st.at)
+expr_deep st (Some h) = bad (Beyond st.at)
 
-unfoldable pub pred_deep : St → PredAt → Got Pred
-pred_deep st P.Wrong = bad (Malformed st.at)
-pred_deep st (P.Is h) = bad (Beyond st.at)
+unfoldable pub pred_deep : St → Option PredHead → Got Pred
+pred_deep st None = bad (Malformed st.at)
+pred_deep st (Some h) = bad (Beyond st.at)
 
 unfoldable mutual
   pub expr_at : ℕ → ℕ → List ℕ → Bool → St → Got Expr
@@ -110,9 +102,9 @@ preds_at left names s n st = many end also (pred_at left names s) n st
 
 -- ---- formulas
 
-unfoldable pub target_by : St → Word → Got Target
-target_by st W.Missing = bad (Malformed st.at)
-target_by st (W.Of n e) = on_next (own_of e st) λ st₁. ok st₁ (record { place = st.at.0; name = n })
+unfoldable pub target_by : St → Option (ℕ × Place) → Got Target
+target_by st None = bad (Malformed st.at)
+target_by st (Some (n, e)) = on_next (own_of e st) λ st₁. ok st₁ (record { place = st.at.0; name = n })
 
 unfoldable pub target_in : ℕ → List ℕ → St → Got Target
 target_in names s st = target_by st (target_at names s st.at)
@@ -136,7 +128,7 @@ becomes_by left names s (suc n) e st k =
     (bad (Malformed st.at))))
 
 unfoldable pub becomes_at : ℕ → List ℕ → St → ℕ → Place → Got Formula
-becomes_at names s st k p = on_byte (bad (Malformed st.at)) (few_at s p) λ n e. becomes_by max_depth names s n e st k
+becomes_at names s st k p = on_part (bad (Malformed st.at)) (few_at s p) λ n e. becomes_by max_depth names s n e st k
 
 -- by the kind of the root
 unfoldable pub root_by : ℕ → List ℕ → St → ℕ → Place → Got Formula
@@ -150,7 +142,7 @@ abbrev pub start : St
 start = record { at = place 0; slots = 0; opened = 0 }
 
 unfoldable pub formula_at : ℕ → List ℕ → St → Got Formula
-formula_at names s st = on_byte (bad (Malformed st.at)) (byte_at s st.at) (root_by names s st)
+formula_at names s st = on_part (bad (Malformed st.at)) (byte_at s st.at) (root_by names s st)
 
 -- bytes that are left over are malformed at the first
 unfoldable pub finish : {A : Type 0} → List ℕ → St → A → Got A
@@ -163,7 +155,7 @@ whole names s = and_then (formula_at names s start) λ f st. finish s st f
 pub data Parsed (A : Type 0) : Type 0 where
   parsed : A → Parsed A
   too_long : Parsed A
-  faulty : Fault → Parsed A
+  faulty : Fault Place → Parsed A
 
 unfoldable pub parsed_by : {A : Type 0} → Got A → Parsed A
 parsed_by (ok st a) = parsed a
@@ -172,8 +164,12 @@ parsed_by (bad f) = faulty f
 unfoldable pub parse_of : ℕ → List ℕ → Parsed Formula
 parse_of names s = pick (ltb max_bytes (length s)) too_long (parsed_by (whole names s))
 
+-- what the code answers
+abbrev pub Form : Type 0
+Form = Result (Unit {0}) FormError
+
 -- the tree is forgotten
 unfoldable pub form_of : {A : Type 0} → Parsed A → Form
-form_of (parsed a) = Good
-form_of too_long = TooLong
-form_of (faulty f) = Bad f
+form_of (parsed a) = Ok tt
+form_of too_long = Err TooLong
+form_of (faulty f) = Err (At f)

@@ -1,23 +1,25 @@
 -- What one record does to the reader's state: the slot it owns, the declaration it opens, the type it holds.
 -- A fault passes through everything that would come after it.
-use Rattle.std.specs.Prelude.{ℕ, zero, suc, ◌+◌, List, ltb, eqb}
+use Rattle.std.specs.Prelude.{ℕ, zero, suc, ◌+◌, List, ltb, eqb, Result, Ok, Err}
 use Rattle.types.specs.declared.Place.{Place}
 use Rattle.types.specs.Ty.{Ty}
 use Rattle.types.specs.Record.{TypeAt, got, malformed, deep, type_at}
 use Rattle.formula.specs.declared.St.{St}
-use Rattle.formula.specs.declared.Fault.{Fault}
-use Rattle.formula.specs.declared.Fault.TheVariants.{Malformed, Beyond}
-use Rattle.formula.specs.declared.Out.{Out}
-use Rattle.formula.specs.declared.Out.TheVariants.{Next, Stop}
+use Rattle.types.specs.declared.Fault.{Fault}
+use Rattle.types.specs.declared.Fault.TheVariants.{Malformed, Beyond}
 use Rattle.formula.specs.Tree.{Spelling, spells, no_type}
-use Rattle.heads.specs.Heads.{pick, place, byte_at, on_byte}
+use Rattle.heads.specs.Heads.{pick, place, byte_at, on_part}
 use Rattle.types.specs.Limits.{max_slots, max_opened}
+
+-- what the code answers: the state after a reading, or its first fault
+abbrev pub Out : Type 0
+Out = Result St (Fault Place)
 
 -- ---- reading: a value and the state after it, or the first fault
 
 pub data Got (A : Type 0) : Type 0 where
   ok : St → A → Got A
-  bad : Fault → Got A
+  bad : Fault Place → Got A
 
 unfoldable pub and_then : {A B : Type 0} → Got A → (A → St → Got B) → Got B
 and_then (ok st a) k = k a st
@@ -25,17 +27,17 @@ and_then (bad f) k = bad f
 
 -- what is left when the value is forgotten
 unfoldable pub forget : {A : Type 0} → Got A → Out
-forget (ok st a) = Next st
-forget (bad f) = Stop f
+forget (ok st a) = Ok st
+forget (bad f) = Err f
 
 -- reading goes on after an outcome
 unfoldable pub after : {A : Type 0} → Out → (St → Got A) → Out
-after (Next st) m = forget (m st)
-after (Stop f) m = Stop f
+after (Ok st) m = forget (m st)
+after (Err f) m = Err f
 
 unfoldable pub on_next : {A : Type 0} → Out → (St → Got A) → Got A
-on_next (Next st) k = k st
-on_next (Stop f) k = bad f
+on_next (Ok st) k = k st
+on_next (Err f) k = bad f
 
 -- n things, one after the other, joined by cons
 unfoldable pub many : {A B : Type 0} → B → (A → B → B) → (St → Got A) → ℕ → St → Got B
@@ -52,17 +54,17 @@ moved e st = record { at = e; slots = st.slots; opened = st.opened }
 unfoldable pub own_of : Place → St → Out
 own_of e st =
     pick (ltb st.slots max_slots)
-    (Next (record { at = e; slots = st.slots + 1; opened = st.opened }))
-    (Stop (Beyond st.at))
+    (Ok (record { at = e; slots = st.slots + 1; opened = st.opened }))
+    (Err (Beyond st.at))
 
 -- a declaration owns a slot and is open from here on
 unfoldable pub declare_of : Place → St → Out
 declare_of e st =
     pick (ltb st.opened max_opened)
     (pick (ltb st.slots max_slots)
-    (Next (record { at = e; slots = st.slots + 1; opened = st.opened + 1 }))
-    (Stop (Beyond st.at)))
-    (Stop (Beyond st.at))
+    (Ok (record { at = e; slots = st.slots + 1; opened = st.opened + 1 }))
+    (Err (Beyond st.at)))
+    (Err (Beyond st.at))
 
 -- at a binder's end its declarations are closed: as many are open as before it
 unfoldable pub closed : ℕ → St → St
@@ -73,8 +75,8 @@ closing opened (ok st a) = ok (closed opened st) a
 closing opened (bad f) = bad f
 
 unfoldable pub closed_of : ℕ → Out → Out
-closed_of opened (Next st) = Next (closed opened st)
-closed_of opened (Stop f) = Stop f
+closed_of opened (Ok st) = Ok (closed opened st)
+closed_of opened (Err f) = Err f
 
 -- ---- types
 
@@ -96,4 +98,4 @@ spelled_in names s left st = and_then (type_in names s left st) λ t st₁. ok s
 
 -- a type, or 4F
 unfoldable pub spelling_in : ℕ → List ℕ → ℕ → St → Got Spelling
-spelling_in names s left st = on_byte (spelled_in names s left st) (byte_at s st.at) λ k e. pick (eqb k 0x4F) (read_no_type left e st) (spelled_in names s left st)
+spelling_in names s left st = on_part (spelled_in names s left st) (byte_at s st.at) λ k e. pick (eqb k 0x4F) (read_no_type left e st) (spelled_in names s left st)

@@ -2,30 +2,18 @@
 // and the first fault of any other stream.
 #![tactic(auto)]
 
-ghost use Rattle.std.specs.Prelude.{◌≡◌, Bool, true, false, ℕ, ◌+◌, ◌*◌, ◌-◌, ◌<◌, ◌≤◌, [], length, get_or, leb};
-ghost use Rattle.types.specs.Record.{type_at, reach};
-ghost use Rattle.types.specs.Code.{end_of};
-ghost use Rattle.types.specs.Limits.{max_bytes, max_names};
-ghost use Rattle.formula.specs.Reader.{own_of, declare_of, closed_of, moved, type_in, spelling_in, forget, after};
+ghost use Rattle.std.specs.Prelude.{◌≡◌, ◌≤◌};
+ghost use Rattle.types.specs.Record.{reach};
+ghost use Rattle.types.specs.Limits.{max_names};
+ghost use Rattle.formula.specs.declared.FormError.TheVariants.{At};
+ghost use Rattle.formula.specs.Reader.{own_of, declare_of, type_in, spelling_in, forget};
 ghost use Rattle.formula.specs.Parse.{decl_at, decls_at, expr_at, exprs_at, pred_at, preds_at, target_in, targets_at, pair_in, pairs_at, formula_at, parse_of, form_of};
-ghost use Rattle.formula.specs.EnvParse.{entry_at, entries_from, capped, environment_of};
-ghost use Rattle.formula.specs.EnvTold.{blank, answer_of};
+ghost use Rattle.formula.specs.EnvParse.{entry_at, environment_of};
+ghost use Rattle.formula.specs.EnvTold.{answer_of, told_of};
 ghost use Rattle.formula.specs.EnvSteps.{entered_at};
 
-use heads::{Byte, DeclAt, DeclHead, ExprAt, ExprHead, PredAt, PredHead, RootAt, Word};
-use types::{Place, TypeEnd};
-
-// ---- the limits
-
-const MAX_BYTES: usize = types::MAX_BYTES;
-
-const LEVELS: u32 = types::LEVELS;
-
-const MAX_SLOTS: u32 = types::MAX_SLOTS;
-
-const MAX_OPENED: u32 = types::MAX_OPENED;
-
-const MAX_NAMES: u32 = types::MAX_NAMES;
+use heads::{DeclHead, ExprHead, PredHead, Root};
+use types::{Fault, LEVELS, MAX_BYTES, MAX_NAMES, MAX_OPENED, MAX_SLOTS, Place};
 
 // Where the reader stands: the next byte, the slots so far, the declarations that are open.
 #[derive(Clone, Copy)]
@@ -35,533 +23,389 @@ pub struct St {
     pub opened: u32,
 }
 
-// A record that is malformed, or one that passes a limit.
-#[derive(Clone, Copy)]
-pub enum Fault {
-    Malformed(Place),
-    Beyond(Place),
-}
-
-// The state after a reading, or its first fault. A fault passes through whatever would come after it.
-#[derive(Clone, Copy)]
-pub enum Out {
-    Next(St),
-    Stop(Fault),
-}
-
 // ---- the reader's state
 
 // A record that owns a slot, and whose head ends at e.
-fn own(e: Place, st: St) -> Out
+#[tactic(auto, unfolding(crate::specs::Reader::own_of))]
+fn own(e: Place, st: St) -> Result<St, Fault<Place>>
     ensures { result ≡ own_of e st }
 {
     if st.slots < MAX_SLOTS {
-        return Out::Next(St {
+        return Ok(St {
             at: e,
             slots: st.slots + 1,
-            opened: st.opened,
+            ..st
         });
     }
-    let at = st.at;
-    Out::Stop(Fault::Beyond(at))
+    Err(Fault::Beyond(st.at))
 }
 
 // A declaration owns a slot and is open from here on.
-fn declare(e: Place, st: St) -> Out
+#[tactic(auto, unfolding(crate::specs::Reader::declare_of, crate::specs::Reader::own_of))]
+fn declare(e: Place, st: St) -> Result<St, Fault<Place>>
     ensures { result ≡ declare_of e st }
 {
-    let at = st.at;
     if st.opened < MAX_OPENED {
-        if st.slots < MAX_SLOTS {
-            return Out::Next(St {
-                at: e,
-                slots: st.slots + 1,
+        return own(
+            e,
+            St {
                 opened: st.opened + 1,
-            });
-        }
-        return Out::Stop(Fault::Beyond(at));
+                ..st
+            },
+        );
     }
-    Out::Stop(Fault::Beyond(at))
+    Err(Fault::Beyond(st.at))
 }
 
-// The state at another place.
-fn moved_to(e: Place, st: St) -> St
-    ensures { result ≡ moved e st }
-{
-    St {
-        at: e,
-        slots: st.slots,
-        opened: st.opened,
-    }
-}
-
-// At a binder's end as many declarations are open as before it.
-fn close(opened: u32, o: Out) -> Out
-    ensures { result ≡ closed_of opened o }
-{
-    match o {
-        Out::Stop(f) => Out::Stop(f),
-        Out::Next(st) => {
-            let at = st.at;
-            Out::Next(St {
-                at,
-                slots: st.slots,
-                opened,
-            })
-        }
-    }
-}
-
-// ---- types and declarations. left: the levels of records that remain, the next record's included
-
-// One type record.
-fn type_at(s: &[u8], names: u32, left: u32, at: Place) -> TypeEnd
-    ensures { result ≡ end_of (type_at left names (reach s.now) at.0) }
-{
-    types::type_end(s, names, at, left)
-}
-
-fn read_type(s: &[u8], names: u32, left: u32, o: Out) -> Out
-    ensures { result ≡ after o (type_in names (reach s.now) left) }
-{
-    match o {
-        Out::Stop(f) => Out::Stop(f),
-        Out::Next(st) => {
-            let at = st.at;
-            match type_at(s, names, left, at) {
-                TypeEnd::End(e) => Out::Next(moved_to(e, st)),
-                TypeEnd::Malformed(p) => Out::Stop(Fault::Malformed(p)),
-                TypeEnd::Deep(p) => Out::Stop(Fault::Beyond(p)),
-            }
-        }
-    }
-}
-
-// A type, or 4F.
-fn read_spelling(s: &[u8], names: u32, left: u32, o: Out) -> Out
-    ensures { result ≡ after o (spelling_in names (reach s.now) left) }
-{
-    match o {
-        Out::Stop(f) => Out::Stop(f),
-        Out::Next(st) => {
-            let at = st.at;
-            match heads::byte_at(s, at) {
-                Byte::Missing => read_type(s, names, left, Out::Next(st)),
-                Byte::Of(k, e) => {
-                    if k == 0x4F {
-                        if left == 0 {
-                            return Out::Stop(Fault::Beyond(at));
-                        }
-                        return Out::Next(moved_to(e, st));
-                    }
-                    read_type(s, names, left, Out::Next(st))
-                }
-            }
-        }
-    }
-}
-
-fn read_decl(s: &[u8], names: u32, left: u32, o: Out) -> Out
-    ensures { result ≡ after o (decl_at names (reach s.now) left) }
-{
-    match o {
-        Out::Stop(f) => Out::Stop(f),
-        Out::Next(st) => {
-            let at = st.at;
-            match heads::decl_head(s, at) {
-                DeclAt::Wrong => Out::Stop(Fault::Malformed(at)),
-                DeclAt::Is(h) => {
-                    if left == 0 {
-                        return Out::Stop(Fault::Beyond(at));
-                    }
-                    match h {
-                        DeclHead::Plain(e) => declare(e, st),
-                        DeclHead::Typed(e) => read_type(s, names, left - 1, declare(e, st)),
-                        DeclHead::Annotated(e) => read_spelling(s, names, left - 1, declare(e, st)),
-                    }
-                }
-            }
-        }
-    }
-}
-
-fn read_decls(s: &[u8], names: u32, left: u32, n: u8, o: Out) -> Out
-    ensures { result ≡ after o (decls_at names (reach s.now) left n) }
-{
-    let mut cur = o;
-    let mut i = n;
-    while 0 < i {
-        cur = read_decl(s, names, left, cur);
-        i -= 1;
-    }
-    cur
-}
-
-// ---- expressions and predicates
-
-// bare: where no 0C may stand.
-#[cycle(reading)]
-fn read_expr(s: &[u8], names: u32, bare: bool, left: u32, o: Out) -> Out
-    ensures { result ≡ after o (expr_at left names (reach s.now) bare) }
-{
-    match o {
-        Out::Stop(f) => Out::Stop(f),
-        Out::Next(st) => {
-            let at = st.at;
-            match heads::expr_head(s, names, bare, at) {
-                ExprAt::Wrong => Out::Stop(Fault::Malformed(at)),
-                ExprAt::Is(h) => {
-                    if left == 0 {
-                        return Out::Stop(Fault::Beyond(at));
-                    }
-                    let l = left - 1;
-                    match h {
-                        ExprHead::Free(_, e) => own(e, st),
-                        ExprHead::Bound(_, e) => own(e, st),
-                        ExprHead::Literal(e) => own(e, st),
-                        ExprHead::Atomic(_, e) => own(e, st),
-                        ExprHead::Extension(n, e) => read_exprs(s, names, l, n, own(e, st)),
-                        ExprHead::Truth(e) => read_pred(s, names, l, own(e, st)),
-                        ExprHead::Binary(_, e) => {
-                            let a = read_expr(s, names, false, l, own(e, st));
-                            read_expr(s, names, false, l, a)
-                        }
-                        ExprHead::Associative(_, n, e) => read_exprs(s, names, l, n, own(e, st)),
-                        ExprHead::Unary(_, e) => read_expr(s, names, false, l, own(e, st)),
-                        ExprHead::Quantified(_, n, e) => {
-                            let ds = read_decls(s, names, l, n, own(e, st));
-                            let q = read_pred(s, names, l, ds);
-                            close(st.opened, read_expr(s, names, false, l, q))
-                        }
-                        ExprHead::Ascribed(e) => {
-                            let a = read_expr(s, names, false, l, own(e, st));
-                            read_spelling(s, names, l, a)
-                        }
-                        ExprHead::Explicit(e) => {
-                            let t = read_type(s, names, l, Out::Next(moved_to(e, st)));
-                            read_expr(s, names, true, l, t)
-                        }
-                    }
-                }
-            }
-        }
-    }
-}
-
-#[cycle(reading)]
-fn read_exprs(s: &[u8], names: u32, left: u32, n: u16, o: Out) -> Out
-    ensures { result ≡ after o (exprs_at left names (reach s.now) n) }
-{
-    let mut cur = o;
-    let mut i = n;
-    while 0 < i {
-        match cur {
-            Out::Stop(f) => {
-                return Out::Stop(f);
-            }
-            Out::Next(_) => {
-                cur = read_expr(s, names, false, left, cur);
-            }
-        }
-        i -= 1;
-    }
-    cur
-}
-
-#[cycle(reading)]
-fn read_pred(s: &[u8], names: u32, left: u32, o: Out) -> Out
-    ensures { result ≡ after o (pred_at left names (reach s.now)) }
-{
-    match o {
-        Out::Stop(f) => Out::Stop(f),
-        Out::Next(st) => {
-            let at = st.at;
-            match heads::pred_head(s, at) {
-                PredAt::Wrong => Out::Stop(Fault::Malformed(at)),
-                PredAt::Is(h) => {
-                    if left == 0 {
-                        return Out::Stop(Fault::Beyond(at));
-                    }
-                    let l = left - 1;
-                    let begin = Out::Next(moved_to(heads::pred_end(h), st));
-                    match h {
-                        PredHead::Constant(_) => begin,
-                        PredHead::Variable(_) => begin,
-                        PredHead::Relational(_, _) => {
-                            let a = read_expr(s, names, false, l, begin);
-                            read_expr(s, names, false, l, a)
-                        }
-                        PredHead::Connective(_) => {
-                            let a = read_pred(s, names, l, begin);
-                            read_pred(s, names, l, a)
-                        }
-                        PredHead::Junction(n, _) => read_preds(s, names, l, n, begin),
-                        PredHead::Negation(_) => read_pred(s, names, l, begin),
-                        PredHead::Quantification(n, _) => {
-                            let ds = read_decls(s, names, l, n, begin);
-                            close(st.opened, read_pred(s, names, l, ds))
-                        }
-                        PredHead::Simple(_) => read_expr(s, names, false, l, begin),
-                        PredHead::Multiple(n, _) => read_exprs(s, names, l, n, begin),
-                        PredHead::Application(n, _) => read_exprs(s, names, l, n, begin),
-                    }
-                }
-            }
-        }
-    }
-}
-
-#[cycle(reading)]
-fn read_preds(s: &[u8], names: u32, left: u32, n: u16, o: Out) -> Out
-    ensures { result ≡ after o (preds_at left names (reach s.now) n) }
-{
-    let mut cur = o;
-    let mut i = n;
-    while 0 < i {
-        match cur {
-            Out::Stop(f) => {
-                return Out::Stop(f);
-            }
-            Out::Next(_) => {
-                cur = read_pred(s, names, left, cur);
-            }
-        }
-        i -= 1;
-    }
-    cur
-}
-
-// ---- formulas
-
-fn read_target(s: &[u8], names: u32, o: Out) -> Out
-    ensures { result ≡ after o (target_in names (reach s.now)) }
-{
-    match o {
-        Out::Stop(f) => Out::Stop(f),
-        Out::Next(st) => {
-            let at = st.at;
-            match heads::target_at(s, names, at) {
-                Word::Missing => Out::Stop(Fault::Malformed(at)),
-                Word::Of(_, e) => own(e, st),
-            }
-        }
-    }
-}
-
-fn read_targets(s: &[u8], names: u32, n: u8, o: Out) -> Out
-    ensures { result ≡ after o (targets_at names (reach s.now) n) }
-{
-    let mut cur = o;
-    let mut i = n;
-    while 0 < i {
-        cur = read_target(s, names, cur);
-        i -= 1;
-    }
-    cur
-}
-
-// A target and its value.
-fn read_pair(s: &[u8], names: u32, left: u32, o: Out) -> Out
-    ensures { result ≡ after o (pair_in left names (reach s.now)) }
-{
-    let t = read_target(s, names, o);
-    read_expr(s, names, false, left, t)
-}
-
-fn read_pairs(s: &[u8], names: u32, left: u32, n: u8, o: Out) -> Out
-    ensures { result ≡ after o (pairs_at left names (reach s.now) n) }
-{
-    let mut cur = o;
-    let mut i = n;
-    while 0 < i {
-        cur = read_pair(s, names, left, cur);
-        i -= 1;
-    }
-    cur
-}
-
-// The record at the start, with all that stands below it.
-fn read_formula(s: &[u8], names: u32, st: St) -> Out
-    ensures { result ≡ forget (formula_at names (reach s.now) st) }
-{
-    let at = st.at;
-    match heads::root_head(s, at) {
-        RootAt::Wrong => Out::Stop(Fault::Malformed(at)),
-        RootAt::Expression => read_expr(s, names, false, LEVELS, Out::Next(st)),
-        RootAt::Predicate => read_pred(s, names, LEVELS, Out::Next(st)),
-        RootAt::Becomes(n, e) => {
-            let begin = Out::Next(moved_to(e, st));
-            read_pairs(s, names, LEVELS - 1, n, begin)
-        }
-        RootAt::BecomesIn(n, e) => {
-            let ts = read_targets(s, names, n, Out::Next(moved_to(e, st)));
-            read_expr(s, names, false, LEVELS - 1, ts)
-        }
-        RootAt::BecomesSuch(n, e) => {
-            let ts = read_targets(s, names, n, Out::Next(moved_to(e, st)));
-            let ds = read_decls(s, names, LEVELS - 1, n, ts);
-            read_pred(s, names, LEVELS - 1, ds)
-        }
-    }
-}
-
-// What the test of a stream answers. `TooLong`: over 16,384 bytes.
+// A stream, and the count of names below which its names lie.
 #[derive(Clone, Copy)]
-pub enum Form {
-    Good,
+struct Reader<'a> {
+    s: &'a [u8],
+    names: u32,
+}
+
+impl Reader<'_> {
+    // ---- types and declarations. left: the levels of records that remain, the next record's included
+
+    #[tactic(auto, using(crate::specs::Steps::type_code), unfolding(crate::specs::Steps::type_out, crate::specs::Reader::moved))]
+    fn read_type(self, left: u32, st: St) -> Result<St, Fault<Place>>
+        ensures { result ≡ forget (type_in self.entry.names (reach self.entry.s.now) left st) }
+    {
+        let at = types::type_end(self.s, self.names, st.at, left)?;
+        Ok(St { at, ..st })
+    }
+
+    // A type, or 4F.
+    #[tactic(auto, using(crate::specs::Steps::spelling_code), unfolding(crate::specs::Steps::spelling_out, crate::specs::Reader::moved))]
+    fn read_spelling(self, left: u32, st: St) -> Result<St, Fault<Place>>
+        ensures { result ≡ forget (spelling_in self.entry.names (reach self.entry.s.now) left st) }
+    {
+        match heads::byte_at(self.s, st.at) {
+            Some((0x4F, at)) => {
+                if left == 0 {
+                    return Err(Fault::Beyond(st.at));
+                }
+                Ok(St { at, ..st })
+            }
+            _ => self.read_type(left, st),
+        }
+    }
+
+    #[tactic(auto, using(crate::specs::Steps::decl_code), unfolding(crate::specs::Steps::record_out, crate::specs::Steps::decl_out, crate::specs::Reader::after))]
+    fn read_decl(self, left: u32, st: St) -> Result<St, Fault<Place>>
+        ensures { result ≡ forget (decl_at self.entry.names (reach self.entry.s.now) left st) }
+    {
+        let h = heads::decl_head(self.s, st.at).ok_or(Fault::Malformed(st.at))?;
+        if left == 0 {
+            return Err(Fault::Beyond(st.at));
+        }
+        match h {
+            DeclHead::Plain(e) => declare(e, st),
+            DeclHead::Typed(e) => self.read_type(left - 1, declare(e, st)?),
+            DeclHead::Annotated(e) => self.read_spelling(left - 1, declare(e, st)?),
+        }
+    }
+
+    // Each row of records is read by a `for` of its own: a closure handed to one function for all would call back into the cycle `reading`, and needs
+    // clauses of its own there, longer than the loop.
+    #[tactic(auto, using(crate::specs::Steps::many_steps), unfolding(crate::specs::Parse::decls_at))]
+    fn read_decls(self, left: u32, n: u8, st: St) -> Result<St, Fault<Place>>
+        ensures { result ≡ forget (decls_at self.entry.names (reach self.entry.s.now) left n st) }
+    {
+        let mut cur = st;
+        for _ in 0..n {
+            cur = self.read_decl(left, cur)?;
+        }
+        Ok(cur)
+    }
+
+    // ---- expressions and predicates
+
+    // bare: where no 0C may stand.
+    #[cycle(reading)]
+    #[tactic(auto, using(crate::specs::Steps::expr_code), unfolding(crate::specs::Steps::record_out, crate::specs::Steps::expr_out, crate::specs::Reader::after, crate::specs::Reader::moved, crate::specs::Reader::closed_of, crate::specs::Reader::closed, crate::specs::Parse::exprs_at))]
+    fn read_expr(self, bare: bool, left: u32, st: St) -> Result<St, Fault<Place>>
+        ensures { result ≡ forget (expr_at left self.entry.names (reach self.entry.s.now) bare st) }
+    {
+        let h = heads::expr_head(self.s, self.names, bare, st.at).ok_or(Fault::Malformed(st.at))?;
+        if left == 0 {
+            return Err(Fault::Beyond(st.at));
+        }
+        let l = left - 1;
+        match h {
+            ExprHead::Free(_, e)
+            | ExprHead::Bound(_, e)
+            | ExprHead::Literal(e)
+            | ExprHead::Atomic(_, e) => own(e, st),
+            ExprHead::Extension(n, e) => self.read_exprs(l, n, own(e, st)?),
+            ExprHead::Truth(e) => self.read_pred(l, own(e, st)?),
+            ExprHead::Binary(_, e) => {
+                let a = self.read_expr(false, l, own(e, st)?)?;
+                self.read_expr(false, l, a)
+            }
+            ExprHead::Associative(_, n, e) => self.read_exprs(l, n, own(e, st)?),
+            ExprHead::Unary(_, e) => self.read_expr(false, l, own(e, st)?),
+            ExprHead::Quantified(_, n, e) => {
+                let ds = self.read_decls(l, n, own(e, st)?)?;
+                let q = self.read_pred(l, ds)?;
+                let end = self.read_expr(false, l, q)?;
+                Ok(St {
+                    opened: st.opened,
+                    ..end
+                })
+            }
+            ExprHead::Ascribed(e) => {
+                let a = self.read_expr(false, l, own(e, st)?)?;
+                self.read_spelling(l, a)
+            }
+            ExprHead::Explicit(e) => {
+                let t = self.read_type(l, St { at: e, ..st })?;
+                self.read_expr(true, l, t)
+            }
+        }
+    }
+
+    #[cycle(reading)]
+    #[tactic(auto, using(crate::specs::Steps::many_steps), unfolding(crate::specs::Parse::exprs_at))]
+    fn read_exprs(self, left: u32, n: u16, st: St) -> Result<St, Fault<Place>>
+        ensures { result ≡ forget (exprs_at left self.entry.names (reach self.entry.s.now) n st) }
+    {
+        let mut cur = st;
+        for _ in 0..n {
+            cur = self.read_expr(false, left, cur)?;
+        }
+        Ok(cur)
+    }
+
+    #[cycle(reading)]
+    #[tactic(auto, using(crate::specs::Steps::pred_code), unfolding(crate::specs::Steps::record_out, crate::specs::Steps::pred_out, heads::specs::Heads::pred_end, crate::specs::Reader::after, crate::specs::Reader::moved, crate::specs::Reader::closed_of, crate::specs::Reader::closed, crate::specs::Parse::exprs_at, crate::specs::Parse::preds_at))]
+    fn read_pred(self, left: u32, st: St) -> Result<St, Fault<Place>>
+        ensures { result ≡ forget (pred_at left self.entry.names (reach self.entry.s.now) st) }
+    {
+        let h = heads::pred_head(self.s, st.at).ok_or(Fault::Malformed(st.at))?;
+        if left == 0 {
+            return Err(Fault::Beyond(st.at));
+        }
+        let l = left - 1;
+        let begin = St {
+            at: heads::pred_end(h),
+            ..st
+        };
+        match h {
+            PredHead::Constant(_) | PredHead::Variable(_) => Ok(begin),
+            PredHead::Relational(..) => {
+                let a = self.read_expr(false, l, begin)?;
+                self.read_expr(false, l, a)
+            }
+            PredHead::Connective(_) => {
+                let a = self.read_pred(l, begin)?;
+                self.read_pred(l, a)
+            }
+            PredHead::Junction(n, _) => self.read_preds(l, n, begin),
+            PredHead::Negation(_) => self.read_pred(l, begin),
+            PredHead::Quantification(n, _) => {
+                let ds = self.read_decls(l, n, begin)?;
+                let end = self.read_pred(l, ds)?;
+                Ok(St {
+                    opened: st.opened,
+                    ..end
+                })
+            }
+            PredHead::Simple(_) => self.read_expr(false, l, begin),
+            PredHead::Multiple(n, _) | PredHead::Application(n, _) => self.read_exprs(l, n, begin),
+        }
+    }
+
+    #[cycle(reading)]
+    #[tactic(auto, using(crate::specs::Steps::many_steps), unfolding(crate::specs::Parse::preds_at))]
+    fn read_preds(self, left: u32, n: u16, st: St) -> Result<St, Fault<Place>>
+        ensures { result ≡ forget (preds_at left self.entry.names (reach self.entry.s.now) n st) }
+    {
+        let mut cur = st;
+        for _ in 0..n {
+            cur = self.read_pred(left, cur)?;
+        }
+        Ok(cur)
+    }
+
+    // ---- formulas
+
+    #[tactic(auto, using(crate::specs::Steps::target_code), unfolding(crate::specs::Steps::target_out))]
+    fn read_target(self, st: St) -> Result<St, Fault<Place>>
+        ensures { result ≡ forget (target_in self.entry.names (reach self.entry.s.now) st) }
+    {
+        let (_, e) = heads::target_at(self.s, self.names, st.at).ok_or(Fault::Malformed(st.at))?;
+        own(e, st)
+    }
+
+    #[tactic(auto, using(crate::specs::Steps::many_steps), unfolding(crate::specs::Parse::targets_at))]
+    fn read_targets(self, n: u8, st: St) -> Result<St, Fault<Place>>
+        ensures { result ≡ forget (targets_at self.entry.names (reach self.entry.s.now) n st) }
+    {
+        let mut cur = st;
+        for _ in 0..n {
+            cur = self.read_target(cur)?;
+        }
+        Ok(cur)
+    }
+
+    // A target and its value.
+    #[tactic(auto, using(crate::specs::Steps::pair_code), unfolding(crate::specs::Reader::after))]
+    fn read_pair(self, left: u32, st: St) -> Result<St, Fault<Place>>
+        ensures { result ≡ forget (pair_in left self.entry.names (reach self.entry.s.now) st) }
+    {
+        let target = self.read_target(st)?;
+        self.read_expr(false, left, target)
+    }
+
+    #[tactic(auto, using(crate::specs::Steps::many_steps), unfolding(crate::specs::Parse::pairs_at))]
+    fn read_pairs(self, left: u32, n: u8, st: St) -> Result<St, Fault<Place>>
+        ensures { result ≡ forget (pairs_at left self.entry.names (reach self.entry.s.now) n st) }
+    {
+        let mut cur = st;
+        for _ in 0..n {
+            cur = self.read_pair(left, cur)?;
+        }
+        Ok(cur)
+    }
+
+    // The record at the start, with all that stands below it.
+    #[tactic(auto, using(crate::specs::Steps::formula_code), unfolding(crate::specs::Steps::root_out, crate::specs::Reader::after, crate::specs::Reader::moved))]
+    fn read_formula(self, st: St) -> Result<St, Fault<Place>>
+        ensures { result ≡ forget (formula_at self.entry.names (reach self.entry.s.now) st) }
+    {
+        let h = heads::root_head(self.s, st.at).ok_or(Fault::Malformed(st.at))?;
+        match h {
+            Root::Expression => self.read_expr(false, LEVELS, st),
+            Root::Predicate => self.read_pred(LEVELS, st),
+            Root::Becomes(n, e) => self.read_pairs(LEVELS - 1, n, St { at: e, ..st }),
+            Root::BecomesIn(n, e) => {
+                let ts = self.read_targets(n, St { at: e, ..st })?;
+                self.read_expr(false, LEVELS - 1, ts)
+            }
+            Root::BecomesSuch(n, e) => {
+                let ts = self.read_targets(n, St { at: e, ..st })?;
+                let ds = self.read_decls(LEVELS - 1, n, ts)?;
+                self.read_pred(LEVELS - 1, ds)
+            }
+        }
+    }
+}
+
+// Why a stream is no formula or no environment: it has over 16,384 bytes, or a first fault.
+#[derive(Clone, Copy)]
+pub enum FormError {
     TooLong,
-    Bad(Fault),
+    At(Fault<Place>),
+}
+
+impl From<Fault<Place>> for FormError {
+    ghost from_gives = { λ f e. e ≡ At f };
+
+    fn from(fault: Fault<Place>) -> FormError {
+        FormError::At(fault)
+    }
 }
 
 // Tests whether a stream spells a formula inside the limits; if not, where it first fails.
-pub fn check_formula(s: &[u8], names: u32) -> Form
+#[tactic(auto, using(crate::specs::Steps::parse_long, crate::specs::Steps::parse_code), unfolding(crate::specs::Steps::whole_out))]
+pub fn check_formula(s: &[u8], names: u32) -> Result<(), FormError>
     ensures { result ≡ form_of (parse_of names s.now) }
 {
     if s.len() > MAX_BYTES {
-        return Form::TooLong;
+        return Err(FormError::TooLong);
     }
-    match read_formula(
-        s,
-        names,
-        St {
-            at: Place(0),
-            slots: 0,
-            opened: 0,
-        },
-    ) {
-        Out::Stop(f) => Form::Bad(f),
-        Out::Next(st) => {
-            let at = st.at;
-            if (at.0 as usize) < s.len() {
-                return Form::Bad(Fault::Malformed(at));
-            }
-            Form::Good
-        }
+    let end = Reader { s, names }.read_formula(St {
+        at: Place(0),
+        slots: 0,
+        opened: 0,
+    })?;
+    if (end.at.0 as usize) < s.len() {
+        return Err(FormError::At(Fault::Malformed(end.at)));
     }
+    Ok(())
 }
 
 // ---- environments
 
 // What the test of an environment answers: its form, and for each name the place of its type plus 1, or 0.
-// After a fault, or for a stream that is too long, every cell is 0.
+// After a fault, or for a stream that is too long, every cell is 0: `answer_of` and must-fail/table_after_fault speak of the table then too, so that it
+// stands beside the form.
 #[derive(Clone, Copy)]
 pub struct Environment {
-    pub form: Form,
+    pub form: Result<(), FormError>,
     pub types: [u32; 256],
 }
 
-// An entry's head: 50 and a name below the count.
-fn entry_at(s: &[u8], names: u32, at: Place) -> Word
-    ensures { result ≡ entry_at names (reach s.now) at }
-{
-    match heads::byte_at(s, at) {
-        Byte::Missing => Word::Missing,
-        Byte::Of(k, p) => {
-            if k == 0x50 {
-                return heads::name_at(s, names, p);
-            }
-            Word::Missing
-        }
-    }
-}
-
-fn cap(names: u32) -> u32
-    ensures { result ≡ capped names }
-{
-    if MAX_NAMES < names {
-        return MAX_NAMES;
-    }
-    names
-}
-
-fn ended(s: &[u8], at: u32) -> bool
-    ensures { result ≡ leb (length s.now) at }
-{
-    s.len() <= at as usize
-}
-
-// An entry: its name, the place of its type, and where it ends; or its first fault.
+// An entry: its name, the place of its type, and where it ends.
 #[derive(Clone, Copy)]
-pub enum Entered {
-    Wrong(Fault),
-    Typed(u16, Place, Place),
+struct Entered {
+    name: u16,
+    at: Place,
+    end: Place,
 }
 
-// The entry at a place. types: the table of the entries before it.
-fn read_entry(s: &[u8], names: u32, types: &[u32; 256], at: Place) -> Entered
-    requires s_len_bound { length s.now ≤ max_bytes }
-    requires names_le_max_names { names ≤ max_names }
-    ensures { result ≡ entered_at names s.now types.now at }
-{
-    match entry_at(s, names, at) {
-        Word::Missing => Entered::Wrong(Fault::Malformed(at)),
-        Word::Of(x, e) => {
-            let i = x as usize;
-            if types[i] != 0 {
-                return Entered::Wrong(Fault::Malformed(at));
-            }
-            match type_at(s, names, LEVELS - 1, e) {
-                TypeEnd::End(f) => Entered::Typed(x, e, f),
-                TypeEnd::Malformed(p) => Entered::Wrong(Fault::Malformed(p)),
-                TypeEnd::Deep(p) => Entered::Wrong(Fault::Beyond(p)),
-            }
+impl Reader<'_> {
+    // An entry's head: 50 and a name below the count.
+    #[tactic(auto, unfolding(crate::specs::EnvParse::entry_at, heads::specs::Heads::on_part))]
+    fn entry_at(self, at: Place) -> Option<(u16, Place)>
+        ensures { result ≡ entry_at self.entry.names (reach self.entry.s.now) at }
+    {
+        let (k, p) = heads::byte_at(self.s, at)?;
+        if k == 0x50 {
+            heads::name_at(self.s, self.names, p)
+        } else {
+            None
         }
     }
-}
 
-// A form with an empty table.
-fn refused(form: Form) -> Environment
-    ensures { result ≡ blank form }
-{
-    Environment {
-        form,
-        types: [0; 256],
+    // The entry at a place. types: the table of the entries before it.
+    #[tactic(auto, using(crate::specs::EnvSteps::entry_below), unfolding(crate::specs::EnvSteps::entered_at, crate::specs::EnvSteps::entered_by, heads::specs::Heads::on_part))]
+    fn read_entry(self, types: &[u32; 256], at: Place) -> Result<Entered, Fault<Place>>
+        requires { self.names ≤ max_names }
+        ensures { result ≡ entered_at self.entry.names (reach self.entry.s.now) types.now at }
+    {
+        let (name, e) = self.entry_at(at).ok_or(Fault::Malformed(at))?;
+        if types[usize::from(name)] != 0 {
+            return Err(Fault::Malformed(at));
+        }
+        let end = types::type_end(self.s, self.names, e, LEVELS - 1)?;
+        Ok(Entered { name, at: e, end })
     }
 }
 
-// The entries of a stream that is not too long, names below the count.
-fn read_entries(s: &[u8], names: u32) -> Environment
-    requires s_len_bound { length s.now ≤ max_bytes }
-    requires names_le_max_names { names ≤ max_names }
-    ensures { result ≡ answer_of (entries_from (length s.now) names s.now [] 0) }
+// The table of a stream that is an environment inside the limits. A count over 256 counts as 256.
+fn table(s: &[u8], names: u32) -> Result<[u32; 256], FormError>
+    ensures { result ≡ told_of (environment_of names s.now) }
 {
+    if s.len() > MAX_BYTES {
+        return Err(FormError::TooLong);
+    }
+    let names = names.min(MAX_NAMES);
+    let reader = Reader { s, names };
     let mut types = [0; 256];
-    let mut at = 0;
-    let mut turns = s.len();
-    while 0 < turns {
-        if ended(s, at) {
-            return Environment {
-                form: Form::Good,
-                types,
-            };
-        }
-        match read_entry(s, names, &types, Place(at)) {
-            Entered::Wrong(f) => {
-                return refused(Form::Bad(f));
-            }
-            Entered::Typed(x, e, f) => {
-                let i = x as usize;
-                types[i] = e.0 + 1;
-                at = f.0;
-            }
-        }
-        turns -= 1;
+    let mut at = Place(0);
+    while (at.0 as usize) < s.len() {
+        let entered = reader.read_entry(&types, at)?;
+        types[usize::from(entered.name)] = entered.at.0 + 1;
+        at = entered.end;
     }
-    if ended(s, at) {
-        return Environment {
-            form: Form::Good,
-            types,
-        };
-    }
-    refused(Form::Bad(Fault::Malformed(Place(at))))
+    Ok(types)
 }
 
 // Tests whether a stream spells an environment inside the limits; if not, where it first fails. A count over 256 counts as 256.
+#[tactic(auto, using(crate::specs::EnvTold::answer_told), unfolding(crate::specs::EnvTold::answer_by, crate::specs::EnvTold::blank))]
 pub fn check_environment(s: &[u8], names: u32) -> Environment
     ensures { result ≡ answer_of (environment_of names s.now) }
 {
-    if s.len() > MAX_BYTES {
-        return refused(Form::TooLong);
+    match table(s, names) {
+        Ok(types) => Environment {
+            form: Ok(()),
+            types,
+        },
+        Err(error) => Environment {
+            form: Err(error),
+            types: [0; 256],
+        },
     }
-    read_entries(s, cap(names))
 }

@@ -1,7 +1,7 @@
 -- The theorems of specs/Complete.antt: `type-here`, `spelling_here`, `decl_here`, `decls-here`, `expr-here`, `exprs-here` and others.
 use Prim.Native.Nat.{ℕ, zero, suc, ◌+◌, ◌≤◌, ◌<◌}
 use native.Mathlib.Omega.{arith}
-use Rattle.std.specs.Prelude.{◌≡◌, Bool, true, eqb}
+use Rattle.std.specs.Prelude.{◌≡◌, Bool, true, eqb, Some, Ok}
 use Rattle.std.proofs.Math.Path.{refl, ap}
 use Rattle.std.proofs.Common.{sym, ◌∙◌}
 use Rattle.std.proofs.Math.Bool.{false}
@@ -15,13 +15,9 @@ use Rattle.types.specs.Spellings.{past, spelled-is-read}
 use Rattle.heads.specs.declared.ExprHead.{ExprHead}
 use Rattle.heads.specs.declared.PredHead.{PredHead}
 use Rattle.heads.specs.declared.DeclHead.{DeclHead}
-use Rattle.heads.specs.declared.ExprAt.TheVariants as E
-use Rattle.heads.specs.declared.PredAt.TheVariants as P
-use Rattle.heads.specs.declared.DeclAt.TheVariants as D
-use Rattle.formula.specs.declared.Out.TheVariants.{Next}
 use Rattle.formula.specs.Tree.{Spelling, spells, no_type, Decl, plain, typed, annotated, Expr, free, bound, literal, atomic, extension, truth, binary, associative, unary, quantified, ascribed, explicit, Exprs, none, more, Pred, constant, variable, relational, connective, junction, negation, quantification, simple, multiple, application, Preds, end, also, Target, Formula, expression, predicate, becomes, becomes_in, becomes_such, decls, exprs, preds, targets, pairs, slots, slots_all, slots_pred, slots_preds, slots_pairs, slots_of}
 use Rattle.formula.specs.Spell.{spell_spelling, spell_decl, spell_decls, spell, spell_all, spell_pred, spell_preds, spell_target, spell_targets, spell_pairs, spell_formula, size_ty, size_spelling, size_decl, size_decls, size, size_all, size_pred, size_preds, size_targets, size_pairs, size_formula, PlacedDecl, PlacedDecls, Placed, Placed_all, PlacedPred, PlacedPreds, PlacedTargets, PlacedPairs, PlacedFormula}
-use Rattle.heads.specs.Heads.{pick, place, byte_of, byte_at, on_byte, expr_head, pred_head, decl_head}
+use Rattle.heads.specs.Heads.{pick, place, byte_of, byte_at, on_part, expr_head, pred_head, decl_head}
 use Rattle.formula.specs.Reader.{ok, and_then, on_next, many, moved, declare_of, closed, closing, type_got, type_in, read_no_type, spelled_in, spelling_in}
 use Rattle.formula.specs.Parse.{decl_by, decl_if, decl_at, decls_at, expr_by, pred_by, expr_if, pred_if, expr_at, pred_at, pair_in, targets_at, pairs_at, becomes_by, becomes_at, root_by, start, formula_at}
 use Rattle.types.specs.Limits.{max_depth, max_slots, max_opened, levels}
@@ -29,7 +25,7 @@ use Rattle.formula_laws.specs.Fits.{is_bare, FitsTy, FitsSpelling, FitsDecl, Fit
 use Rattle.formula_laws.specs.Sizes.{length_ty, length_decl, length-decls, length-expr, length_pred, length-targets}
 use Rattle.formula_laws.specs.Complete.{state, byte_here, head-annotated, head_plain, state-is, head-typed, after_one, after-three, head-binary, head-junction, head-ascribed, head-simple, head-quantified, head-relational, head-constant, head-extension, head-variable, head-connective, after-four, after_two, head-associative, head-explicit, head-free, head-negation, head-atomic, head-unary, head-bound, head-application, head-literal, own-here, head-quantification, head-truth, head-multiple, past-target, target-here, few-here, targets-here, pred_first, expr-first}
 
-declare-here : (e : Place) (p k o : ℕ) → k < max_slots → o < max_opened → declare_of e (state p k o) ≡ Next (record { at = e; slots = k + 1; opened = o + 1 })
+declare-here : (e : Place) (p k o : ℕ) → k < max_slots → o < max_opened → declare_of e (state p k o) ≡ Ok (record { at = e; slots = k + 1; opened = o + 1 })
 unfolding declare_of
 declare-here e p k o h l = rw (lt-ltb o max_opened l, lt-ltb k max_slots h)
 
@@ -61,18 +57,18 @@ module _ (names : ℕ) (s : List ℕ) where
   not_none (T.prod t u) r l b e z = let y : b ≡ 0x44 = cc in omega arith
 
   spelled-here : (t : Ty) (d left p k o : ℕ) (r : List ℕ) → d + left ≡ levels → FitsTy names d t → drop p s ≡ T.spell t ++ r → spelling_in names s left (state p k o) ≡ ok (state (p + size_ty t) k o) (spells t)
-  unfolding spelling_in spelled_in on_byte and_then byte_at byte_of
+  unfolding spelling_in spelled_in on_part and_then byte_at byte_of
   spelled-here t d left p k o r l f h = go (drop p s) refl
     where
       read : spelled_in names s left (state p k o) ≡ ok (state (p + size_ty t) k o) (spells t)
       read = rw (type-here t d left p k o r l f h)
 
-      go : (x : List ℕ) → drop p s ≡ x → (on_byte (spelled_in names s left (state p k o)) (byte_of p x) λ b e. pick (eqb b 0x4F) (read_no_type left e (state p k o)) (spelled_in names s left (state p k o))) ≡ ok (state (p + size_ty t) k o) (spells t)
+      go : (x : List ℕ) → drop p s ≡ x → (on_part (spelled_in names s left (state p k o)) (byte_of p x) λ b e. pick (eqb b 0x4F) (read_no_type left e (state p k o)) (spelled_in names s left (state p k o))) ≡ ok (state (p + size_ty t) k o) (spells t)
       go [] e = read
       go (b ∷ x) e = rw (ne_eqb b 0x4F (not_none t r x b (sym h ∙ e))) read
 
   none_here : (d left p k o : ℕ) (r : List ℕ) → d + left ≡ levels → d ≤ max_depth → drop p s ≡ 0x4F ∷ r → spelling_in names s left (state p k o) ≡ ok (state (p + 1) k o) no_type
-  unfolding spelling_in on_byte read_no_type moved
+  unfolding spelling_in on_part read_no_type moved
   none_here d zero p k o r l f h = absurd (omega arith)
   none_here d (suc left) p k o r l f h = rw (byte_here s p 0x4F r h)
 
@@ -81,7 +77,7 @@ module _ (names : ℕ) (s : List ℕ) where
   spelling_here (spells t) d left p k o r l f h = spelled-here t d left p k o r l f h
   spelling_here no_type d left p k o r l f h = none_here d left p k o r l f h
 
-  decl_node : (left p k o : ℕ) (g : DeclHead) → decl_head s (place p) ≡ D.Is g → decl_at names s (suc left) (state p k o) ≡ decl_by names s left (state p k o) g
+  decl_node : (left p k o : ℕ) (g : DeclHead) → decl_head s (place p) ≡ Some g → decl_at names s (suc left) (state p k o) ≡ decl_by names s left (state p k o) g
   unfolding decl_at decl_if
   decl_node left p k o g h = rw h
 
@@ -126,11 +122,11 @@ module _ (names : ℕ) (s : List ℕ) where
   past-decls : (a : List Decl) (p : ℕ) (r : List ℕ) → drop p s ≡ spell_decls a ++ r → drop (p + size_decls a) s ≡ r
   past-decls a p r h = rw (← length-decls a) (past s p (spell_decls a) r h)
 
-  expr-node : (left p k o : ℕ) (bare : Bool) (g : ExprHead) → expr_head names s bare (place p) ≡ E.Is g → expr_at (suc left) names s bare (state p k o) ≡ expr_by names s left (λ b t. expr_at left names s b t) (λ t. pred_at left names s t) (state p k o) g
+  expr-node : (left p k o : ℕ) (bare : Bool) (g : ExprHead) → expr_head names s bare (place p) ≡ Some g → expr_at (suc left) names s bare (state p k o) ≡ expr_by names s left (λ b t. expr_at left names s b t) (λ t. pred_at left names s t) (state p k o) g
   unfolding expr_at expr_if
   expr-node left p k o bare g h = rw h
 
-  pred_node : (left p k o : ℕ) (g : PredHead) → pred_head s (place p) ≡ P.Is g → pred_at (suc left) names s (state p k o) ≡ pred_by names s left (λ b t. expr_at left names s b t) (λ t. pred_at left names s t) (state p k o) g
+  pred_node : (left p k o : ℕ) (g : PredHead) → pred_head s (place p) ≡ Some g → pred_at (suc left) names s (state p k o) ≡ pred_by names s left (λ b t. expr_at left names s b t) (λ t. pred_at left names s t) (state p k o) g
   unfolding pred_at pred_if
   pred_node left p k o g h = rw h
 
@@ -320,11 +316,11 @@ module _ (names : ℕ) (s : List ℕ) where
       (state-is _ _ _ _ _ _ _ (let z : p + 3 + size x.1 + size_pairs xs ≡ p + (3 + (size x.1 + size_pairs xs)) = omega arith in z) (let z : k + 1 + slots x.1 + slots_pairs xs ≡ k + (suc (slots x.1) + slots_pairs xs) = omega arith in z) refl)
 
   root-here : (k : ℕ) (l : List ℕ) → drop 0 s ≡ k ∷ l → formula_at names s start ≡ root_by names s start k (place 1)
-  unfolding formula_at on_byte
+  unfolding formula_at on_part
   root-here k l h = rw (byte_here s 0 k l h)
 
   becomes-here : (k n : ℕ) (l : List ℕ) → 0x30 ≤ k → 1 ≤ n → drop 0 s ≡ k ∷ n ∷ l → formula_at names s start ≡ becomes_by max_depth names s n (place 2) start k
-  unfolding root_by becomes_at on_byte
+  unfolding root_by becomes_at on_part
   becomes-here k n l m i h = root-here k (n ∷ l) h ∙ (rw (le-ltb k 0x20 (omega arith), le-ltb k 0x30 m, few-here s 1 n l i (after_one s 0 k (n ∷ l) h)))
 
   decl_row : (xs : List Decl) (d left p k o : ℕ) (r : List ℕ) → d + left ≡ levels → FitsDecls names d xs → PlacedDecls p xs → k + decls xs ≤ max_slots → o + decls xs ≤ max_opened → drop p s ≡ spell_decls xs ++ r → decls_at names s left (decls xs) (state p k o) ≡ ok (state (p + size_decls xs) (k + decls xs) (o + decls xs)) xs

@@ -3,7 +3,7 @@ use Prim.Native.Nat.{ℕ, zero, suc, ◌+◌, ◌/◌, ◌%◌, ◌<◌}
 use native.Mathlib.Omega.{arith}
 use Rattle.std.proofs.Math.Path.{◌≡◌, refl, sym, ap}
 use Rattle.std.proofs.Common.{◌∙◌}
-use Rattle.std.specs.Prelude.{Bool, get_or, ltb}
+use Rattle.std.specs.Prelude.{Bool, get_or, ltb, Option, Some, None}
 use Rattle.std.proofs.Math.Bool.{true, false}
 use mathlib.Core.List.{List, [], ◌∷◌, ◌++◌, append_assoc, append-nil}
 use Rattle.std.proofs.Math.ListN.{length, take, drop, length-append}
@@ -14,10 +14,8 @@ use Rattle.types.specs.Ty.{Ty}
 use Rattle.types.specs.Record.{TypeAt, got, malformed, deep, type_at}
 use Rattle.types.specs.Spellings.{read-stands, bytes-at}
 use Rattle.types.specs.Faults.{Leads, malformed_means, deep_means}
-use Rattle.heads.specs.declared.Word.{Word}
-use Rattle.heads.specs.declared.Word.TheVariants as W
-use Rattle.formula.specs.declared.Fault.{Fault}
-use Rattle.formula.specs.declared.Fault.TheVariants.{Malformed}
+use Rattle.types.specs.declared.Fault.{Fault}
+use Rattle.types.specs.declared.Fault.TheVariants.{Malformed}
 use Rattle.formula.specs.Environment.{Entry, lacks, holds, Entries, lookup, Distinct, spell_entry, spell_entries}
 use Rattle.heads.specs.Heads.{pick, place}
 use Rattle.formula.specs.Parse.{Parsed, parsed, too_long, faulty}
@@ -68,10 +66,10 @@ module _ (names : ℕ) (s : List ℕ) (bytes : (i : ℕ) → get_or s i 0 < 256)
     fresh-fault n e l y (holds t) z = at_entry seen p d
     fresh-fault n e l y lacks z = typed-fault n e.0 l y z (type_at max_depth names s e.0) refl
 
-    entry-fault : (w : Word) → EntrySays names s p w → FaultBy seen p (entry_by names s k seen p w)
+    entry-fault : (w : Option (ℕ × Place)) → EntrySays names s p w → FaultBy seen p (entry_by names s k seen p w)
     unfolding entry_by FaultBy EntrySays fault_place
-    entry-fault W.Missing x = at_entry seen p d
-    entry-fault (W.Of n e) x = fresh-fault n e x.0 x.1 (lookup seen n) refl
+    entry-fault None x = at_entry seen p d
+    entry-fault (Some (n, e)) x = fresh-fault n e x.0 x.1 (lookup seen n) refl
 
   from-fault : (turns : ℕ) (seen : Entries) (p : ℕ) → Distinct seen → FaultBy seen p (entries_from turns names s seen p)
   unfolding entries_from FaultBy fault_place
@@ -86,7 +84,7 @@ module _ (names : ℕ) (s : List ℕ) (bytes : (i : ℕ) → get_or s i 0 < 256)
       go k rec true = entry-fault k rec seen p d (entry_at names s (place p)) (entry-says names s bytes p)
       go k rec false = tt
 
-module _ (names : ℕ) (s : List ℕ) (bytes : (i : ℕ) → get_or s i 0 < 256) (f : Fault) where
+module _ (names : ℕ) (s : List ℕ) (bytes : (i : ℕ) → get_or s i 0 < 256) (f : Fault Place) where
   by-more : (x : Parsed Entries) → FaultBy (capped names) s bytes [] 0 x → x ≡ faulty f → EntriesComplete (capped names) s (fault_place f)
   unfolding FaultBy
   by-more (parsed es) r e = absurd (let z : ◌≡◌ {A = ℕ} 0 1 = cc in omega arith)
@@ -109,7 +107,7 @@ module _ (names : ℕ) (s : List ℕ) (bytes : (i : ℕ) → get_or s i 0 < 256)
       go true e = absurd (let z : ◌≡◌ {A = ℕ} 0 1 = cc in omega arith)
       go false e = by-more (entries_from (length s) (capped names) s [] 0) (from-fault (capped names) s bytes (length s) [] 0 tt) e
 
-pub environment-none : (names : ℕ) (s : List ℕ) (f : Fault) → environment_of names s ≡ faulty f → (es : Entries) → SpelledEntries names s es → ⊥
+pub environment-none : (names : ℕ) (s : List ℕ) (f : Fault Place) → environment_of names s ≡ faulty f → (es : Entries) → SpelledEntries names s es → ⊥
 environment-none names s f e es w =
     let h = spelled-entries-parsed names s es w in
     let k : faulty f ≡ parsed es = sym e ∙ h in

@@ -4,15 +4,13 @@ use Prim.Native.Nat.{ℕ, zero, suc, ◌+◌, ◌≤◌, ◌<◌}
 use native.Mathlib.Omega.{arith}
 use Rattle.std.proofs.Math.Decide.{dec_le}
 use Rattle.std.proofs.Math.Path.{◌≡◌, sym, ap}
-use Rattle.std.specs.Prelude.{refl, Bool, true, false, length, get_or, ltb, eqb}
+use Rattle.std.specs.Prelude.{refl, Bool, true, false, length, get_or, ltb, eqb, Option, Some, None}
 use Rattle.std.proofs.Common.{◌∙◌, lt-ltb, le-ltb}
 use mathlib.Core.List.{List, [], ◌∷◌, ◌++◌}
 use Rattle.types.specs.declared.Place.{Place}
 use Rattle.types.specs.Record.{TypeAt, got, malformed, deep, type_at}
-use Rattle.heads.specs.declared.Word.{Word}
-use Rattle.heads.specs.declared.Word.TheVariants as W
-use Rattle.formula.specs.declared.Fault.{Fault}
-use Rattle.formula.specs.declared.Fault.TheVariants.{Malformed}
+use Rattle.types.specs.declared.Fault.{Fault}
+use Rattle.types.specs.declared.Fault.TheVariants.{Malformed}
 use Rattle.formula.specs.Environment.{Entry, lacks, holds, Entries, lookup}
 use Rattle.heads.specs.Heads.{pick, place}
 use Rattle.formula.specs.Parse.{Parsed, parsed, too_long, faulty}
@@ -47,8 +45,8 @@ module _ (names : ℕ) (s s' : List ℕ) (m : ℕ) (short : m ≤ length s) (sho
   entry-same : (p : Place) → p.0 + 4 ≤ m → entry_at names s p ≡ entry_at names s' p
   unfolding entry_at
   entry-same p h =
-      on_byte_same names s s' m short short' agree bytes W.Missing p _ _ (omega arith)
-      (λ k q e. ap (λ (w : Word). pick (eqb k 0x50) w W.Missing) (name-same names s s' m short short' agree bytes q (omega arith)))
+      on_byte_same names s s' m short short' agree bytes None p _ _ (omega arith)
+      (λ k q e. ap (λ (w : Option (ℕ × Place)). pick (eqb k 0x50) w None) (name-same names s s' m short short' agree bytes q (omega arith)))
 
   -- one entry at p, where the two readers agree after it
   module _ (k k' : Entries → ℕ → Parsed Entries) (seen : Entries) (p : ℕ) (rec : (es : Entries) (q : ℕ) → p < q → RepE m q (k es q) (k' es q)) where
@@ -72,10 +70,10 @@ module _ (names : ℕ) (s s' : List ℕ) (m : ℕ) (short : m ≤ length s) (sho
     fresh_rep n e h (holds t) = here m p
     fresh_rep n e h lacks = typed_rep n e.0 h (type_at max_depth names s e.0) (type_at max_depth names s' e.0) (type_rep names s s' m short short' agree bytes max_depth e.0)
 
-    entry-by_rep : (w : Word) → EntrySays names s p w → RepE m p (entry_by names s k seen p w) (entry_by names s' k' seen p w)
+    entry-by_rep : (w : Option (ℕ × Place)) → EntrySays names s p w → RepE m p (entry_by names s k seen p w) (entry_by names s' k' seen p w)
     unfolding entry_by EntrySays
-    entry-by_rep W.Missing x = here m p
-    entry-by_rep (W.Of n e) x = fresh_rep n e (let i = x.1.ends in omega arith) (lookup seen n)
+    entry-by_rep None x = here m p
+    entry-by_rep (Some (n, e)) x = fresh_rep n e (let i = x.1.ends in omega arith) (lookup seen n)
 
     entry_rep : RepE m p (entry_by names s k seen p (entry_at names s (place p))) (entry_by names s' k' seen p (entry_at names s' (place p)))
     entry_rep = go (dec_le (p + 4) m)
@@ -110,7 +108,7 @@ module _ (names : ℕ) (s s' : List ℕ) (m : ℕ) (short : m ≤ length s) (sho
       on-left p (ltb p (length s)) seen _ _
       (on-right p seen _ _ (entry_rep (λ es q. entries_from turns names s es q) (λ es q. entries_from turns' names s' es q) seen p (λ es q h. from_rep turns turns' es q (omega arith) (omega arith))))
 
-  by_rep : (f : Fault) → at_fault f + 4 ≤ m → (g g' : Parsed Entries) → RepE m 0 g g' → g ≡ faulty f → g' ≡ faulty f
+  by_rep : (f : Fault Place) → at_fault f + 4 ≤ m → (g g' : Parsed Entries) → RepE m 0 g g' → g ≡ faulty f → g' ≡ faulty f
   unfolding RepE
   by_rep f h (parsed es) g' r e = absurd (let z : ◌≡◌ {A = ℕ} 0 1 = cc in omega arith)
   by_rep f h too_long g' r e = absurd (let z : ◌≡◌ {A = ℕ} 0 1 = cc in omega arith)
@@ -121,7 +119,7 @@ module _ (names : ℕ) (s s' : List ℕ) (m : ℕ) (short : m ≤ length s) (sho
 
 module _ (names : ℕ) (s s' : List ℕ) (m : ℕ) (short : m ≤ length s) (short' : m ≤ length s') (agree : (i : ℕ) → i < m → get_or s i 0 ≡ get_or s' i 0) (bytes : (i : ℕ) → get_or s i 0 < 256) where
   -- the same fault
-  pub environment-stays : (f : Fault) → at_fault f + 4 ≤ m → length s ≤ max_bytes → length s' ≤ max_bytes → environment_of names s ≡ faulty f → environment_of names s' ≡ faulty f
+  pub environment-stays : (f : Fault Place) → at_fault f + 4 ≤ m → length s ≤ max_bytes → length s' ≤ max_bytes → environment_of names s ≡ faulty f → environment_of names s' ≡ faulty f
   unfolding environment_of
   environment-stays f h l l' e =
       let e' : entries_from (length s) (capped names) s [] 0 ≡ faulty f = sym (rw (le-ltb max_bytes (length s) l)) ∙ e in

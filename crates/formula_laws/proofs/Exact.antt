@@ -1,5 +1,5 @@
 -- The theorems of specs/Exact.antt: `spelled-is-parsed`, `parsed-is-spelled`, `spelled_once`, `good-is-spelled`, `spelled-is-good`.
-use Rattle.std.specs.Prelude.{ℕ, ◌≤◌, ◌<◌, Bool, length, get_or}
+use Rattle.std.specs.Prelude.{ℕ, ◌≤◌, ◌<◌, Bool, length, get_or, Ok}
 use native.Mathlib.Omega.{arith}
 use Rattle.std.proofs.Math.Path.{◌≡◌, refl, ap}
 use Rattle.std.proofs.Common.{sym, ◌∙◌, le-ltb, ltb-false}
@@ -7,7 +7,6 @@ use Rattle.std.proofs.Math.Bool.{true, false}
 use mathlib.Core.List.{List, [], ◌++◌, append-nil}
 use Rattle.std.proofs.Math.ListN.{drop, drop_of_length-le}
 use Rattle.std.proofs.Math.Dec.{ltb}
-use Rattle.formula.specs.declared.Form.TheVariants.{Good}
 use Rattle.formula.specs.Tree.{Formula}
 use Rattle.formula.specs.Spell.{spell_formula, size_formula}
 use Rattle.heads.specs.Heads.{pick}
@@ -34,7 +33,7 @@ module _ (names : ℕ) (s : List ℕ) (bytes : (i : ℕ) → get_or s i 0 < 256)
   whole-spelled (bad f) h l e = absurd (let z : ◌≡◌ {A = ℕ} 0 1 = cc in omega arith)
   whole-spelled (ok st b) h l e = go (ltb st.at.0 (length s)) refl e
     where
-      go : (c : Bool) → ltb st.at.0 (length s) ≡ c → parsed_by (pick c (bad (Rattle.formula.specs.declared.Fault.TheVariants.Malformed st.at)) (ok st b)) ≡ parsed a → Spelled names s a
+      go : (c : Bool) → ltb st.at.0 (length s) ≡ c → parsed_by (pick c (bad (Rattle.types.specs.declared.Fault.TheVariants.Malformed st.at)) (ok st b)) ≡ parsed a → Spelled names s a
       go true k e = absurd (let z : ◌≡◌ {A = ℕ} 0 1 = cc in omega arith)
       go false k e =
           let i : b ≡ a = cc in
@@ -60,17 +59,17 @@ spelled_once names s a b v w =
     cc
 
 -- Good exactly where the stream spells a formula
-good-parsed : (x : Parsed Formula) → form_of x ≡ Good → (a : Formula) × (x ≡ parsed a)
+good-parsed : (x : Parsed Formula) → form_of x ≡ Ok tt → (a : Formula) × (x ≡ parsed a)
 unfolding form_of
 good-parsed (parsed a) e = (a, refl)
 good-parsed too_long e = absurd (let z : ◌≡◌ {A = ℕ} 0 1 = cc in omega arith)
 good-parsed (faulty f) e = absurd (let z : ◌≡◌ {A = ℕ} 0 1 = cc in omega arith)
 
-pub good-is-spelled : (names : ℕ) (s : List ℕ) → ((i : ℕ) → get_or s i 0 < 256) → form_of (parse_of names s) ≡ Good → (a : Formula) × Spelled names s a
+pub good-is-spelled : (names : ℕ) (s : List ℕ) → ((i : ℕ) → get_or s i 0 < 256) → form_of (parse_of names s) ≡ Ok tt → (a : Formula) × Spelled names s a
 good-is-spelled names s bytes e =
     let h = good-parsed (parse_of names s) e in
     (h.0, parsed-is-spelled names s bytes h.0 h.1)
 
-pub spelled-is-good : (names : ℕ) (s : List ℕ) (a : Formula) → Spelled names s a → form_of (parse_of names s) ≡ Good
+pub spelled-is-good : (names : ℕ) (s : List ℕ) (a : Formula) → Spelled names s a → form_of (parse_of names s) ≡ Ok tt
 unfolding form_of
 spelled-is-good names s a w = rw (spelled-is-parsed names s a w)

@@ -3,7 +3,7 @@ use Prim.Native.Nat.{ℕ, zero, suc, ◌+◌, ◌/◌, ◌%◌, ◌≤◌, ◌<�
 use native.Mathlib.Omega.{arith}
 use Rattle.std.proofs.Math.Path.{◌≡◌, refl, sym, ap}
 use Rattle.std.proofs.Common.{◌∙◌, le-ltb, lt-ltb, ltb-false, ne_eqb}
-use Rattle.std.specs.Prelude.{Bool, get_or, eqb}
+use Rattle.std.specs.Prelude.{Bool, get_or, eqb, Option, Some, None, Ok}
 use Rattle.std.proofs.Math.Bool.{true, false}
 use mathlib.Core.List.{List, [], ◌∷◌, ◌++◌, append_assoc, append-nil}
 use Rattle.std.proofs.Math.ListN.{length, drop, drop_of_length-le, length-drop}
@@ -13,12 +13,9 @@ use Rattle.types.specs.Ty as T
 use Rattle.types.specs.Ty.{Ty}
 use Rattle.types.specs.Record.{TypeAt, got, malformed, deep, type_at}
 use Rattle.types.specs.Spellings.{past, spelled-is-read, read-stands, bytes-at}
-use Rattle.heads.specs.declared.Word.{Word}
-use Rattle.heads.specs.declared.Word.TheVariants as W
-use Rattle.formula.specs.declared.Form.TheVariants.{Good}
-use Rattle.formula.specs.declared.Fault.TheVariants.{Malformed}
+use Rattle.types.specs.declared.Fault.TheVariants.{Malformed}
 use Rattle.formula.specs.Environment.{Entry, lacks, holds, Entries, first, lookup, Distinct, spell_entry, spell_entries}
-use Rattle.heads.specs.Heads.{pick, place, on_byte, name_at}
+use Rattle.heads.specs.Heads.{pick, place, on_part, name_at}
 use Rattle.formula.specs.Parse.{Parsed, parsed, too_long, faulty, form_of}
 use Rattle.formula.specs.EnvParse.{entry_at, typed_by, fresh_by, entry_by, entries_from, capped, environment_of}
 use Rattle.types.specs.Limits.{max_bytes, max_depth}
@@ -40,14 +37,14 @@ before-lacks (x ∷ es) e fs d = rw (ne_eqb x.0 e.0 (away es e fs x.0 d.0)) (bef
 pub entry-says : (names : ℕ) (s : List ℕ) (bytes : (i : ℕ) → get_or s i 0 < 256) (p : ℕ) → EntrySays names s p (entry_at names s (place p))
 unfolding entry_at EntrySays
 entry-says names s bytes p =
-    on_byte_lem s bytes Q W.Missing (place p) (λ k q. pick (eqb k 0x50) (name_at names s q) W.Missing) tt
-    (λ k q a x. choose Q k 0x50 _ _ (λ h. same_word Q (name_at names s q) (on-name s bytes Q W.Missing names q W.Of tt (λ n e b z. (b, stand_join s p q.0 e.0 (0x50 ∷ []) _ (rw h at x) z)))) tt)
+    on_byte_lem s bytes Q None (place p) (λ k q. pick (eqb k 0x50) (name_at names s q) None) tt
+    (λ k q a x. choose Q k 0x50 _ _ (λ h. same_word Q (name_at names s q) (on-name s bytes Q None names q (λ n e. Some (n, e)) tt (λ n e b z. (b, stand_join s p q.0 e.0 (0x50 ∷ []) _ (rw h at x) z)))) tt)
   where
-    Q : Word → Type 0
+    Q : Option (ℕ × Place) → Type 0
     Q = EntrySays names s p
 
-entry_here : (names : ℕ) (s : List ℕ) (p n : ℕ) (r : List ℕ) → n < names → drop p s ≡ 0x50 ∷ n % 256 ∷ n / 256 ∷ r → entry_at names s (place p) ≡ W.Of n (place (p + 3))
-unfolding entry_at on_byte
+entry_here : (names : ℕ) (s : List ℕ) (p n : ℕ) (r : List ℕ) → n < names → drop p s ≡ 0x50 ∷ n % 256 ∷ n / 256 ∷ r → entry_at names s (place p) ≡ Some (n, (place (p + 3)))
+unfolding entry_at on_part
 entry_here names s p n r l h =
     let q : p + 1 + 2 ≡ p + 3 = omega arith in
     rw (byte_here s p 0x50 _ h, name-here s (p + 1) names n r l (after_one s p _ _ h), q)
@@ -94,10 +91,10 @@ module _ (names : ℕ) (s : List ℕ) (bytes : (i : ℕ) → get_or s i 0 < 256)
     fresh-told n e l y (holds t) z = tt
     fresh-told n e l y lacks z = typed-told n e.0 l y z (type_at max_depth names s e.0) refl
 
-    entry-told : (w : Word) → EntrySays names s p w → ToldBy seen p (entry_by names s k seen p w)
+    entry-told : (w : Option (ℕ × Place)) → EntrySays names s p w → ToldBy seen p (entry_by names s k seen p w)
     unfolding entry_by ToldBy EntrySays
-    entry-told W.Missing x = tt
-    entry-told (W.Of n e) x = fresh-told n e x.0 x.1 (lookup seen n) refl
+    entry-told None x = tt
+    entry-told (Some (n, e)) x = fresh-told n e x.0 x.1 (lookup seen n) refl
 
   from_told : (turns : ℕ) (seen : Entries) (p : ℕ) → Distinct seen → ToldBy seen p (entries_from turns names s seen p)
   unfolding entries_from ToldBy
@@ -164,13 +161,13 @@ entries_once names s es fs v w =
     cc
 
 -- Good exactly where the stream spells an environment
-good-entries : (x : Parsed Entries) → form_of x ≡ Good → (es : Entries) × (x ≡ parsed es)
+good-entries : (x : Parsed Entries) → form_of x ≡ Ok tt → (es : Entries) × (x ≡ parsed es)
 unfolding form_of
 good-entries (parsed a) e = (a, refl)
 good-entries too_long e = absurd (let z : ◌≡◌ {A = ℕ} 0 1 = cc in omega arith)
 good-entries (faulty f) e = absurd (let z : ◌≡◌ {A = ℕ} 0 1 = cc in omega arith)
 
-pub good-is-entries : (names : ℕ) (s : List ℕ) → ((i : ℕ) → get_or s i 0 < 256) → form_of (environment_of names s) ≡ Good → (es : Entries) × (environment_of names s ≡ parsed es) × SpelledEntries names s es
+pub good-is-entries : (names : ℕ) (s : List ℕ) → ((i : ℕ) → get_or s i 0 < 256) → form_of (environment_of names s) ≡ Ok tt → (es : Entries) × (environment_of names s ≡ parsed es) × SpelledEntries names s es
 good-is-entries names s bytes e =
     let h = good-entries (environment_of names s) e in
     (h.0, h.1, parsed-entries-spelled names s bytes h.0 h.1)

@@ -1,10 +1,11 @@
 -- The theorems of specs/FaultPlace.antt, whose head says what they give: `fault_completes`, `faulty-none`.
+use Rattle.types.specs.declared.Place.{Place}
 use Rattle.std.specs.Prelude.{ℕ, ◌+◌, ◌≤◌, ◌<◌, refl, Bool, List, [], ◌∷◌, ◌++◌, length, get_or, take, drop, ltb}
 use Rattle.std.proofs.Common.{arith, ap, ◌∙◌, append-nil, length-append, take_at}
 use Rattle.std.proofs.Math.Path.{◌≡◌, sym}
 use Rattle.std.proofs.Math.Bool.{true, false}
-use Rattle.formula.specs.declared.Fault.{Fault}
-use Rattle.formula.specs.declared.Fault.TheVariants.{Malformed, Beyond}
+use Rattle.types.specs.declared.Fault.{Fault}
+use Rattle.types.specs.declared.Fault.TheVariants.{Malformed, Beyond}
 use Rattle.formula.specs.Tree.{Target, Expr, Formula, expression, predicate, becomes, becomes_in, becomes_such, decls}
 use Rattle.formula.specs.Spell.{spell_formula}
 use Rattle.heads.specs.Heads.{pick}
@@ -43,8 +44,8 @@ fits-formula names (becomes p xs) f = (f.0, fits-pairs names xs f.1)
 fits-formula names (becomes_in p t ts a) f = (f.0, fits-targets names ts f.1, fits-shape a names 1 0 f.2)
 fits-formula names (becomes_such p ts ds a) f = (f.0, f.1, fits-targets names ts f.3, fits-decls names 1 ds f.4, fits_pred a names 1 (decls ds) f.5)
 
-module _ (names : ℕ) (s : List ℕ) (some : 0x30 ≤ get_or s 0 0 → 0 < names) (bytes : (i : ℕ) → get_or s i 0 < 256) (f : Fault) where
-  by-fault : (g : Fault) → Fails {A = Formula} (FormulaUp names s bytes start) (bad g) → g ≡ f → Completes names s (fault_place f)
+module _ (names : ℕ) (s : List ℕ) (some : 0x30 ≤ get_or s 0 0 → 0 < names) (bytes : (i : ℕ) → get_or s i 0 < 256) (f : Fault Place) where
+  by-fault : (g : Fault Place) → Fails {A = Formula} (FormulaUp names s bytes start) (bad g) → g ≡ f → Completes names s (fault_place f)
   unfolding Fails FormulaUp fault_place
   by-fault (Malformed p) u e = rw (← e) (from_start names s p.0 u.0 u.1 u.2)
   by-fault (Beyond p) u e = rw (← e) (from_start names s p.0 u.0 u.1 u.2)
@@ -68,7 +69,7 @@ module _ (names : ℕ) (s : List ℕ) (some : 0x30 ≤ get_or s 0 0 → 0 < name
       go true e = absurd (let z : ◌≡◌ {A = ℕ} 0 1 = cc in omega arith)
       go false e = whole_completes (formula_at names s start) (sound-formula names s bytes start refl) (formula-fails names s bytes start some) e
 
-pub faulty-none : (names : ℕ) (s : List ℕ) (f : Fault) → parse_of names s ≡ faulty f → (a : Formula) → Spelled names s a → ⊥
+pub faulty-none : (names : ℕ) (s : List ℕ) (f : Fault Place) → parse_of names s ≡ faulty f → (a : Formula) → Spelled names s a → ⊥
 faulty-none names s f e a w =
     let h = spelled-is-parsed names s a w in
     let k : faulty f ≡ parsed a = sym e ∙ h in

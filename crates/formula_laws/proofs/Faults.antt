@@ -1,7 +1,7 @@
 -- The theorems of specs/Faults.antt: `expr-fails`, `pred_fails`, `formula-fails`.
 use Prim.Native.Nat.{ℕ, zero, suc, ◌+◌, ◌≤◌, ◌<◌}
 use native.Mathlib.Omega.{arith}
-use Rattle.std.specs.Prelude.{◌≡◌, Bool, get_or, ltb}
+use Rattle.std.specs.Prelude.{◌≡◌, Bool, get_or, ltb, Option, Some, None, Ok, Err}
 use Rattle.std.proofs.Math.Path.{refl, sym, ap}
 use Rattle.std.proofs.Common.{◌∙◌, get_or-drop, ltb-false}
 use Rattle.std.proofs.Math.Bool.{true, false}
@@ -12,28 +12,18 @@ use Rattle.types.specs.Ty.{Ty}
 use Rattle.types.specs.Record.{TypeAt, got, malformed, deep, type_at}
 use Rattle.types.specs.Spellings.{bytes-at}
 use Rattle.types.specs.Faults.{malformed_means, deep_means}
-use Rattle.heads.specs.declared.Word.{Word}
-use Rattle.heads.specs.declared.Word.TheVariants as W
 use Rattle.heads.specs.declared.ExprHead.{ExprHead}
 use Rattle.heads.specs.declared.ExprHead.TheVariants.{Free, Bound, Literal, Atomic, Extension, Truth, Binary, Associative, Unary, Quantified, Ascribed, Explicit}
 use Rattle.heads.specs.declared.PredHead.{PredHead}
 use Rattle.heads.specs.declared.PredHead.TheVariants.{Constant, Variable, Relational, Connective, Junction, Negation, Quantification, Simple, Multiple, Application}
 use Rattle.heads.specs.declared.DeclHead.{DeclHead}
 use Rattle.heads.specs.declared.DeclHead.TheVariants.{Plain, Typed, Annotated}
-use Rattle.heads.specs.declared.ExprAt.{ExprAt}
-use Rattle.heads.specs.declared.ExprAt.TheVariants as E
-use Rattle.heads.specs.declared.PredAt.{PredAt}
-use Rattle.heads.specs.declared.PredAt.TheVariants as P
-use Rattle.heads.specs.declared.DeclAt.{DeclAt}
-use Rattle.heads.specs.declared.DeclAt.TheVariants as D
 use Rattle.formula.specs.declared.St.{St}
-use Rattle.formula.specs.declared.Fault.TheVariants.{Malformed, Beyond}
-use Rattle.formula.specs.declared.Out.{Out}
-use Rattle.formula.specs.declared.Out.TheVariants.{Next, Stop}
+use Rattle.types.specs.declared.Fault.TheVariants.{Malformed, Beyond}
 use Rattle.formula.specs.Tree.{Spelling, spells, no_type, Decl, plain, typed, annotated, Expr, literal, extension, truth, binary, associative, unary, quantified, ascribed, explicit, Exprs, none, more, Pred, constant, relational, connective, junction, negation, quantification, simple, multiple, application, Preds, end, also, Target, Formula, expression, predicate, becomes, becomes_in, becomes_such, decls, exprs, preds, targets, pairs}
 use Rattle.formula.specs.Spell.{spell_spelling, spell_decl, spell_decls, spell, spell_all, spell_pred, spell_preds, spell_target, spell_targets, spell_pairs, spell_formula}
 use Rattle.heads.specs.Heads.{pick, expr_head, pred_head, decl_head, target_at}
-use Rattle.formula.specs.Reader.{Got, ok, bad, and_then, on_next, many, moved, own_of, declare_of, closing, type_got, type_in, read_no_type, spelled_in, spelling_in}
+use Rattle.formula.specs.Reader.{Got, ok, bad, and_then, on_next, many, moved, own_of, declare_of, closing, type_got, type_in, read_no_type, spelled_in, spelling_in, Out}
 use Rattle.formula.specs.Parse.{decl_by, decl_if, decl_at, decls_at, expr_by, pred_by, expr_if, pred_if, expr_deep, pred_deep, expr_at, pred_at, target_by, target_in, pair_in, targets_at, pairs_at, becomes_by, becomes_at, root_by, formula_at}
 use Rattle.types.specs.Limits.{max_depth, max_slots, max_opened, levels}
 use Rattle.formula_laws.specs.Fits.{is_bare, FitsTy}
@@ -45,9 +35,9 @@ use Rattle.formula_laws.proofs.Sound.{sound-type, sound_spelling, sound_decl, so
 use Rattle.formula_laws.specs.Faults.{Fails, lead_up, TypeUp, SpellingUp, upto-here, DeclUp, upto-after, DeclsUp, upto-first, ExprUp, PredUp, ExprsUp, PredsUp, FormulaUp, TargetUp, TargetsUp, PairUp, PairsUp}
 
 unfoldable Faulty : (ℕ → Type 0) → Out → Type 0
-Faulty U (Next t) = Unit {0}
-Faulty U (Stop (Malformed p)) = U p.0
-Faulty U (Stop (Beyond p)) = U p.0
+Faulty U (Ok t) = Unit {0}
+Faulty U (Err (Malformed p)) = U p.0
+Faulty U (Err (Beyond p)) = U p.0
 
 holds-any : {A : Type 0} (g : Got A) → Holds (λ t a. Unit {0}) g
 unfolding Holds
@@ -60,17 +50,17 @@ fails-then R Z U (ok t a) k h v f c = c a t h
 fails-then R Z U (bad (Malformed p)) k h v f c = f p.0 v
 fails-then R Z U (bad (Beyond p)) k h v f c = f p.0 v
 
-fails-next : {B : Type 0} (U : ℕ → Type 0) (o : Out) (k : St → Got B) → Faulty U o → ((t : St) → o ≡ Next t → Fails U (k t)) → Fails U (on_next o k)
+fails-next : {B : Type 0} (U : ℕ → Type 0) (o : Out) (k : St → Got B) → Faulty U o → ((t : St) → o ≡ Ok t → Fails U (k t)) → Fails U (on_next o k)
 unfolding Fails on_next Faulty
-fails-next U (Next t) k z c = c t refl
-fails-next U (Stop (Malformed p)) k z c = z
-fails-next U (Stop (Beyond p)) k z c = z
+fails-next U (Ok t) k z c = c t refl
+fails-next U (Err (Malformed p)) k z c = z
+fails-next U (Err (Beyond p)) k z c = z
 
 own-faulty : (U : ℕ → Type 0) (e : Place) (st : St) → U st.at.0 → Faulty U (own_of e st)
 unfolding own_of Faulty
 own-faulty U e st z = go (ltb st.slots max_slots)
   where
-    go : (b : Bool) → Faulty U (pick b (Next (record { at = e; slots = st.slots + 1; opened = st.opened })) (Stop (Beyond st.at)))
+    go : (b : Bool) → Faulty U (pick b (Ok (record { at = e; slots = st.slots + 1; opened = st.opened })) (Err (Beyond st.at)))
     go true = tt
     go false = z
 
@@ -78,7 +68,7 @@ declare-faulty : (U : ℕ → Type 0) (e : Place) (st : St) → U st.at.0 → Fa
 unfolding declare_of Faulty
 declare-faulty U e st z = go (ltb st.opened max_opened) (ltb st.slots max_slots)
   where
-    go : (b c : Bool) → Faulty U (pick b (pick c (Next (record { at = e; slots = st.slots + 1; opened = st.opened + 1 })) (Stop (Beyond st.at))) (Stop (Beyond st.at)))
+    go : (b c : Bool) → Faulty U (pick b (pick c (Ok (record { at = e; slots = st.slots + 1; opened = st.opened + 1 })) (Err (Beyond st.at))) (Err (Beyond st.at)))
     go true true = tt
     go true false = z
     go false true = z
@@ -136,7 +126,7 @@ module _ (names : ℕ) (s : List ℕ) (bytes : (i : ℕ) → get_or s i 0 < 256)
   unfolding DeclUp ShapeDecl
   decl_start st = (plain 0, tt, upto-here s st.at.0 _)
 
-  decl_by-fails : (left d : ℕ) → suc d + left ≡ levels → (st : St) (h : DeclHead) → DeclSays s st.at.0 (D.Is h) → Fails (DeclUp names s bytes st) (decl_by names s left st h)
+  decl_by-fails : (left d : ℕ) → suc d + left ≡ levels → (st : St) (h : DeclHead) → DeclSays s st.at.0 (Some h) → Fails (DeclUp names s bytes st) (decl_by names s left st h)
   unfolding decl_by DeclSays Fails DeclUp TypeUp SpellingUp ShapeDecl spell_decl
   decl_by-fails left d l st (Plain e) x = fails-next (DeclUp names s bytes st) (declare_of e st) _ (declare-faulty (DeclUp names s bytes st) e st (decl_start st)) (λ t o. tt)
   decl_by-fails left d l st (Typed e) x =
@@ -152,10 +142,10 @@ module _ (names : ℕ) (s : List ℕ) (bytes : (i : ℕ) → get_or s i 0 < 256)
   unfolding decl_at decl_if Fails
   decl_fails left d l st = go left l (decl_head s st.at) (decl_says names s bytes st.at)
     where
-      go : (left : ℕ) → d + left ≡ levels → (h : DeclAt) → DeclSays s st.at.0 h → Fails (DeclUp names s bytes st) (decl_if names s left st h)
-      go left l D.Wrong x = decl_start st
-      go zero l (D.Is h) x = decl_start st
-      go (suc left) l (D.Is h) x = decl_by-fails left d (let i : suc d + left ≡ levels = omega arith in i) st h x
+      go : (left : ℕ) → d + left ≡ levels → (h : Option DeclHead) → DeclSays s st.at.0 h → Fails (DeclUp names s bytes st) (decl_if names s left st h)
+      go left l None x = decl_start st
+      go zero l (Some h) x = decl_start st
+      go (suc left) l (Some h) x = decl_by-fails left d (let i : suc d + left ≡ levels = omega arith in i) st h x
 
   -- a row of declarations, the rest of them plain
   plains : ℕ → List Decl
@@ -259,7 +249,7 @@ module _ (names : ℕ) (s : List ℕ) (bytes : (i : ℕ) → get_or s i 0 < 256)
     shape_pred_of : {t u : St} {a : Pred} → PredRead names s bytes (suc d) t a u → ShapePred names a
     shape_pred_of {t = t} {a = a} r = fits_pred a names (suc d) t.opened r.fits
 
-    expr-by-fails : (bare : Bool) (h : ExprHead) → ExprSays names s bare st.at.0 (E.Is h) → Fails (ExprUp names s bytes bare st) (expr_by names s left X Q st h)
+    expr-by-fails : (bare : Bool) (h : ExprHead) → ExprSays names s bare st.at.0 (Some h) → Fails (ExprUp names s bytes bare st) (expr_by names s left X Q st h)
     unfolding expr_by ExprSays Fails ExprUp PredUp ExprsUp DeclsUp SpellingUp TypeUp Shape spell is_bare
     expr-by-fails bare (Free n e) x = fails-next (ExprUp names s bytes bare st) (own_of e st) _ (own-faulty (ExprUp names s bytes bare st) e st (expr-start bare st))
         (λ t o. tt)
@@ -312,7 +302,7 @@ module _ (names : ℕ) (s : List ℕ) (bytes : (i : ℕ) → get_or s i 0 < 256)
         (λ a t r. fails-last (λ u b. ExprRead names s bytes (suc d) true t b u) (ExprUp names s bytes true t) (ExprUp names s bytes bare st) (X true t) (explicit st.at.0 a) (hX true t) (fX true t)
         (λ q u. (explicit 0 a u.0, not_here bare x.0, (type-below r, (let z = u.1 refl in cc), u.2), upto-after s (step-moved s st _ e x.1).stand (upto-after s r.step.stand u.3))))
 
-    pred_by-fails : (h : PredHead) → PredSays s st.at.0 (P.Is h) → Fails (PredUp names s bytes st) (pred_by names s left X Q st h)
+    pred_by-fails : (h : PredHead) → PredSays s st.at.0 (Some h) → Fails (PredUp names s bytes st) (pred_by names s left X Q st h)
     unfolding pred_by PredSays Fails ExprUp PredUp ExprsUp PredsUp DeclsUp ShapePred spell_pred
     pred_by-fails (Constant e) x = tt
     pred_by-fails (Variable e) x = tt
@@ -348,25 +338,25 @@ module _ (names : ℕ) (s : List ℕ) (bytes : (i : ℕ) → get_or s i 0 < 256)
         fails-last (λ u a. ExprsRead names s bytes (suc d) n (moved e st) a u) (ExprsUp names s bytes n (moved e st)) (PredUp names s bytes st) (many none more (X false) n (moved e st)) (application st.at.0) (all_read names s bytes d left l X Q hX hQ st n (moved e st)) (all-fails n (moved e st))
         (λ q u. (application 0 u.0, u.2, rw u.1 (upto-after s (step-moved s st _ e x).stand u.3)))
 
-    expr_if_fails : (bare : Bool) (h : ExprAt) → ExprSays names s bare st.at.0 h → Fails (ExprUp names s bytes bare st) (expr_if names s left X Q st h)
+    expr_if_fails : (bare : Bool) (h : Option ExprHead) → ExprSays names s bare st.at.0 h → Fails (ExprUp names s bytes bare st) (expr_if names s left X Q st h)
     unfolding expr_if Fails
-    expr_if_fails bare E.Wrong x = expr-start bare st
-    expr_if_fails bare (E.Is h) x = expr-by-fails bare h x
+    expr_if_fails bare None x = expr-start bare st
+    expr_if_fails bare (Some h) x = expr-by-fails bare h x
 
-    pred_if_fails : (h : PredAt) → PredSays s st.at.0 h → Fails (PredUp names s bytes st) (pred_if names s left X Q st h)
+    pred_if_fails : (h : Option PredHead) → PredSays s st.at.0 h → Fails (PredUp names s bytes st) (pred_if names s left X Q st h)
     unfolding pred_if Fails
-    pred_if_fails P.Wrong x = pred_start st
-    pred_if_fails (P.Is h) x = pred_by-fails h x
+    pred_if_fails None x = pred_start st
+    pred_if_fails (Some h) x = pred_by-fails h x
 
-  expr-deep-fails : (bare : Bool) (st : St) (h : ExprAt) → Fails (ExprUp names s bytes bare st) (expr_deep st h)
+  expr-deep-fails : (bare : Bool) (st : St) (h : Option ExprHead) → Fails (ExprUp names s bytes bare st) (expr_deep st h)
   unfolding expr_deep Fails
-  expr-deep-fails bare st E.Wrong = expr-start bare st
-  expr-deep-fails bare st (E.Is h) = expr-start bare st
+  expr-deep-fails bare st None = expr-start bare st
+  expr-deep-fails bare st (Some h) = expr-start bare st
 
-  pred_deep-fails : (st : St) (h : PredAt) → Fails (PredUp names s bytes st) (pred_deep st h)
+  pred_deep-fails : (st : St) (h : Option PredHead) → Fails (PredUp names s bytes st) (pred_deep st h)
   unfolding pred_deep Fails
-  pred_deep-fails st P.Wrong = pred_start st
-  pred_deep-fails st (P.Is h) = pred_start st
+  pred_deep-fails st None = pred_start st
+  pred_deep-fails st (Some h) = pred_start st
 
   mutual
     unfolding expr_at pred_at
@@ -401,9 +391,9 @@ module _ (names : ℕ) (s : List ℕ) (bytes : (i : ℕ) → get_or s i 0 < 256)
     unfolding target_in target_by Fails
     target-fails st = go (target_at names s st.at)
       where
-        go : (w : Word) → Fails (TargetUp names s bytes some st) (target_by st w)
-        go W.Missing = target-start st
-        go (W.Of n e) = fails-next (TargetUp names s bytes some st) (own_of e st) _ (own-faulty (TargetUp names s bytes some st) e st (target-start st)) (λ t o. tt)
+        go : (w : Option (ℕ × Place)) → Fails (TargetUp names s bytes some st) (target_by st w)
+        go None = target-start st
+        go (Some (n, e)) = fails-next (TargetUp names s bytes some st) (own_of e st) _ (own-faulty (TargetUp names s bytes some st) e st (target-start st)) (λ t o. tt)
 
     -- n targets that are the first name, n pairs of it and a literal
     zeroths : ℕ → List Target

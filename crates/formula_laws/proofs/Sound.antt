@@ -3,7 +3,7 @@ use Prim.Native.Nat.{ℕ, zero, suc, ◌+◌, ◌≤◌, ◌<◌}
 use native.Mathlib.Omega.{arith}
 use Rattle.std.proofs.Math.Path.{◌≡◌, refl, sym, ap}
 use Rattle.std.proofs.Common.{◌∙◌}
-use Rattle.std.specs.Prelude.{Bool, get_or}
+use Rattle.std.specs.Prelude.{Bool, get_or, Option, Some, None}
 use Rattle.std.proofs.Math.Bool.{true, false}
 use mathlib.Core.List.{List, [], ◌∷◌}
 use Rattle.std.proofs.Math.Dec.{ltb}
@@ -17,14 +17,8 @@ use Rattle.heads.specs.declared.PredHead.{PredHead}
 use Rattle.heads.specs.declared.PredHead.TheVariants.{Constant, Variable, Relational, Connective, Junction, Negation, Quantification, Simple, Multiple, Application}
 use Rattle.heads.specs.declared.DeclHead.{DeclHead}
 use Rattle.heads.specs.declared.DeclHead.TheVariants.{Plain, Typed, Annotated}
-use Rattle.heads.specs.declared.ExprAt.{ExprAt}
-use Rattle.heads.specs.declared.ExprAt.TheVariants as E
-use Rattle.heads.specs.declared.PredAt.{PredAt}
-use Rattle.heads.specs.declared.PredAt.TheVariants as P
-use Rattle.heads.specs.declared.DeclAt.{DeclAt}
-use Rattle.heads.specs.declared.DeclAt.TheVariants as D
 use Rattle.formula.specs.declared.St.{St}
-use Rattle.formula.specs.declared.Fault.TheVariants.{Malformed}
+use Rattle.types.specs.declared.Fault.TheVariants.{Malformed}
 use Rattle.formula.specs.Tree.{Spelling, Decl, Expr, Exprs, none, more, Pred, Preds, end, also, Target, Formula, expression, predicate, decls, exprs, preds, targets, pairs, slots, slots_all, slots_pred, slots_preds, slots_pairs, slots_of}
 use Rattle.formula.specs.Spell.{spell_spelling, spell_decl, spell_decls, spell, spell_all, spell_pred, spell_preds, spell_target, spell_targets, spell_pairs, spell_formula, size_ty, size_decl, size_decls, size, size_pred, size_targets, PlacedDecl, PlacedDecls, Placed, Placed_all, PlacedPred, PlacedPreds, PlacedTargets, PlacedPairs, PlacedFormula}
 use Rattle.heads.specs.Heads.{pick, place, expr_head, pred_head, decl_head}
@@ -82,7 +76,7 @@ module _ (names : ℕ) (s : List ℕ) (bytes : (i : ℕ) → get_or s i 0 < 256)
       Q : Got Spelling → Type 0
       Q = Holds (λ t a. SpellingRead names s bytes d st a t)
 
-  decl_by_lem : (d left : ℕ) → suc d + left ≡ levels → (st : St) (h : DeclHead) → DeclSays s st.at.0 (D.Is h) → Holds (λ t a. DeclRead names s bytes d st a t) (decl_by names s left st h)
+  decl_by_lem : (d left : ℕ) → suc d + left ≡ levels → (st : St) (h : DeclHead) → DeclSays s st.at.0 (Some h) → Holds (λ t a. DeclRead names s bytes d st a t) (decl_by names s left st h)
   unfolding decl_by DeclSays Holds spell_decl PlacedDecl FitsDecl
   decl_by_lem d left l st (Plain e) x =
       holds-next (λ t a. DeclRead names s bytes d st a t) (declare_of e st) _
@@ -102,10 +96,10 @@ module _ (names : ℕ) (s : List ℕ) (bytes : (i : ℕ) → get_or s i 0 < 256)
   unfolding decl_at decl_if Holds
   sound_decl d left l st = go left l (decl_head s st.at) (decl_says names s bytes st.at)
     where
-      go : (left : ℕ) → d + left ≡ levels → (h : DeclAt) → DeclSays s st.at.0 h → Holds (λ t a. DeclRead names s bytes d st a t) (decl_if names s left st h)
-      go left l D.Wrong x = tt
-      go zero l (D.Is h) x = tt
-      go (suc left) l (D.Is h) x = decl_by_lem d left (let i : suc d + left ≡ levels = omega arith in i) st h x
+      go : (left : ℕ) → d + left ≡ levels → (h : Option DeclHead) → DeclSays s st.at.0 h → Holds (λ t a. DeclRead names s bytes d st a t) (decl_if names s left st h)
+      go left l None x = tt
+      go zero l (Some h) x = tt
+      go (suc left) l (Some h) x = decl_by_lem d left (let i : suc d + left ≡ levels = omega arith in i) st h x
 
   decls-none : (d : ℕ) (st : St) → DeclsRead names s bytes d 0 st [] st
   unfolding spell_decls decls PlacedDecls FitsDecls
@@ -180,7 +174,7 @@ module _ (names : ℕ) (s : List ℕ) (bytes : (i : ℕ) → get_or s i 0 < 256)
     deep-most : d ≤ max_depth
     deep-most = omega arith
 
-    pub expr-by : (bare : Bool) (h : ExprHead) → ExprSays names s bare st.at.0 (E.Is h) → Holds (λ t a. ExprRead names s bytes d bare st a t) (expr_by names s left X Q st h)
+    pub expr-by : (bare : Bool) (h : ExprHead) → ExprSays names s bare st.at.0 (Some h) → Holds (λ t a. ExprRead names s bytes d bare st a t) (expr_by names s left X Q st h)
     unfolding expr_by ExprSays Holds spell slots Placed Fits is_bare
     expr-by bare (Free n e) x =
         holds-next (λ t a. ExprRead names s bytes d bare st a t) (own_of e st) _ (λ t o. record { step = step-own s e st t _ o x.1; placed = refl; fits = (deep-most, x.0); plain_one = λ z. refl })
@@ -265,7 +259,7 @@ module _ (names : ℕ) (s : List ℕ) (bytes : (i : ℕ) → get_or s i 0 < 256)
         let z = expr-at q (st.at.0 + 1 + size_ty a) st.opened (let j : t.at.0 ≡ st.at.0 + 1 + size_ty a = omega arith in j) (let j : t.opened ≡ st.opened = omega arith in j) in
         record { step = step_as s (step_join s w (step_join s r.step q.step)) (omega arith) (omega arith); placed = (refl, z.0); fits = (deep-most, r.fits, q.plain_one refl, z.1); plain_one = λ y. let j : ◌≡◌ {A = Bool} true false = sym y ∙ x.0 in absurd (not_so j) }))
 
-    pub pred_by_lem : (h : PredHead) → PredSays s st.at.0 (P.Is h) → Holds (λ t a. PredRead names s bytes d st a t) (pred_by names s left X Q st h)
+    pub pred_by_lem : (h : PredHead) → PredSays s st.at.0 (Some h) → Holds (λ t a. PredRead names s bytes d st a t) (pred_by names s left X Q st h)
     unfolding pred_by PredSays Holds spell_pred slots_pred PlacedPred FitsPred
     pred_by_lem (Constant e) x = record { step = step-moved s st _ e x; placed = refl; fits = deep-most }
     pred_by_lem (Variable e) x = record { step = step-moved s st _ e x; placed = refl; fits = deep-most }
@@ -334,25 +328,25 @@ module _ (names : ℕ) (s : List ℕ) (bytes : (i : ℕ) → get_or s i 0 < 256)
         let c = r.count in
         record { step = rw c (step_as s (step_join s w r.step) (omega arith) (omega arith)); placed = (refl, y.0); fits = (deep-most, y.1) })
 
-    pub expr_if_lem : (bare : Bool) (h : ExprAt) → ExprSays names s bare st.at.0 h → Holds (λ t a. ExprRead names s bytes d bare st a t) (expr_if names s left X Q st h)
+    pub expr_if_lem : (bare : Bool) (h : Option ExprHead) → ExprSays names s bare st.at.0 h → Holds (λ t a. ExprRead names s bytes d bare st a t) (expr_if names s left X Q st h)
     unfolding expr_if Holds
-    expr_if_lem bare E.Wrong x = tt
-    expr_if_lem bare (E.Is h) x = expr-by bare h x
+    expr_if_lem bare None x = tt
+    expr_if_lem bare (Some h) x = expr-by bare h x
 
-    pub pred_if_lem : (h : PredAt) → PredSays s st.at.0 h → Holds (λ t a. PredRead names s bytes d st a t) (pred_if names s left X Q st h)
+    pub pred_if_lem : (h : Option PredHead) → PredSays s st.at.0 h → Holds (λ t a. PredRead names s bytes d st a t) (pred_if names s left X Q st h)
     unfolding pred_if Holds
-    pred_if_lem P.Wrong x = tt
-    pred_if_lem (P.Is h) x = pred_by_lem h x
+    pred_if_lem None x = tt
+    pred_if_lem (Some h) x = pred_by_lem h x
 
-  expr-deep : (d : ℕ) (bare : Bool) (st : St) (h : ExprAt) → Holds (λ t a. ExprRead names s bytes d bare st a t) (expr_deep st h)
+  expr-deep : (d : ℕ) (bare : Bool) (st : St) (h : Option ExprHead) → Holds (λ t a. ExprRead names s bytes d bare st a t) (expr_deep st h)
   unfolding expr_deep Holds
-  expr-deep d bare st E.Wrong = tt
-  expr-deep d bare st (E.Is h) = tt
+  expr-deep d bare st None = tt
+  expr-deep d bare st (Some h) = tt
 
-  pred_deep_lem : (d : ℕ) (st : St) (h : PredAt) → Holds (λ t a. PredRead names s bytes d st a t) (pred_deep st h)
+  pred_deep_lem : (d : ℕ) (st : St) (h : Option PredHead) → Holds (λ t a. PredRead names s bytes d st a t) (pred_deep st h)
   unfolding pred_deep Holds
-  pred_deep_lem d st P.Wrong = tt
-  pred_deep_lem d st (P.Is h) = tt
+  pred_deep_lem d st None = tt
+  pred_deep_lem d st (Some h) = tt
 
   mutual
     unfolding expr_at pred_at

@@ -4,7 +4,7 @@ use Rattle.std.specs.Prelude.{ℕ, ◌≡◌, refl, List, [], ◌∷◌, ◌++�
 use Rattle.types.specs.Record as R
 use Rattle.types.specs.Record.{type_at, type_by, head_of, given_of, deep_by}
 use Rattle.formula.specs.Environment.{first, lookup}
-use Rattle.heads.specs.Heads.{byte_of, byte_at, on_byte, on_word, word_at, name_at, op_at, count_at, few_at, expr_body, expr_head, pred_body, pred_head, decl_body, decl_head, target_at}
+use Rattle.heads.specs.Heads.{byte_of, byte_at, on_part, word_at, name_at, op_at, count_at, few_at, expr_body, expr_head, pred_body, pred_head, decl_body, decl_head, target_at}
 use Rattle.formula.specs.Reader.{and_then, on_next, many, moved, own_of, declare_of, closed, closing, type_got, type_in, read_no_type, spelled_in, spelling_in}
 use Rattle.formula.specs.Parse.{decl_by, decl_if, decl_at, decls_at, expr_by, pred_by, expr_if, pred_if, expr_deep, pred_deep, expr_at, pred_at, target_by, target_in, pair_in, targets_at, pairs_at, becomes_by, becomes_at, root_by, formula_at, finish, whole, parsed_by, parse_of, form_of}
 use Rattle.formula.specs.EnvParse.{entry_at, typed_by, fresh_by, entry_by, entries_from, capped, environment_of}
@@ -61,7 +61,7 @@ formulas =
 pub formula-cases :
     each formula formulas ≡
     ((0, 0) ∷ (4, 0) ∷ (4, 0) ∷ (0, 0) ∷ (5, 65) ∷ (4, 65) ∷ (4, 65) ∷ (0, 0) ∷ (5, 66) ∷ (4, 0) ∷ (4, 3) ∷ (4, 1) ∷ (4, 0) ∷ (4, 0) ∷ (4, 0) ∷ (4, 2) ∷ (4, 1) ∷ (0, 0) ∷ (4, 0) ∷ (4, 1) ∷ (4, 2) ∷ (4, 0) ∷ (0, 0) ∷ (0, 0) ∷ (5, 1026) ∷ (5, 65) ∷ (5, 66) ∷ (5, 66) ∷ (5, 1028) ∷ (4, 1026) ∷ (4, 3) ∷ (4, 3) ∷ (4, 4) ∷ [])
-unfolding type_at type_by head_of given_of deep_by R.and_then byte_of byte_at on_byte on_word word_at name_at op_at count_at few_at expr_body expr_head pred_body pred_head decl_body decl_head target_at and_then on_next many moved own_of declare_of closed closing type_got type_in read_no_type spelled_in spelling_in decl_by decl_if decl_at decls_at expr_by pred_by expr_if pred_if expr_deep pred_deep expr_at pred_at target_by target_in pair_in targets_at pairs_at becomes_by becomes_at root_by formula_at finish whole parsed_by parse_of form_of number_of formula_number place_of
+unfolding type_at type_by head_of given_of deep_by R.and_then byte_of byte_at on_part word_at name_at op_at count_at few_at expr_body expr_head pred_body pred_head decl_body decl_head target_at and_then on_next many moved own_of declare_of closed closing type_got type_in read_no_type spelled_in spelling_in decl_by decl_if decl_at decls_at expr_by pred_by expr_if pred_if expr_deep pred_deep expr_at pred_at target_by target_in pair_in targets_at pairs_at becomes_by becomes_at root_by formula_at finish whole parsed_by parse_of form_of number_of formula_number place_of
 formula-cases = refl
 
 abbrev environments : List (List ℕ)
@@ -81,5 +81,5 @@ environments =
 
 pub environment-cases :
     each environment environments ≡ ((0, 0) ∷ (0, 0) ∷ (3, 4) ∷ (3, 4) ∷ (3, 0) ∷ (3, 0) ∷ (3, 3) ∷ (3, 5) ∷ (3, 3) ∷ (0, 0) ∷ (5, 67) ∷ [])
-unfolding type_at type_by head_of given_of deep_by R.and_then byte_of byte_at on_byte on_word word_at name_at first lookup entry_at typed_by fresh_by entry_by entries_from capped environment_of form_of number_of environment_number place_of
+unfolding type_at type_by head_of given_of deep_by R.and_then byte_of byte_at on_part word_at name_at first lookup entry_at typed_by fresh_by entry_by entries_from capped environment_of form_of number_of environment_number place_of
 environment-cases = refl

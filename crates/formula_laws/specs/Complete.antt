@@ -2,7 +2,7 @@
 -- Theorems that rest on what must-fail edits change stand in proofs/Complete.antt.
 use Prim.Native.Nat.{ℕ, suc, ◌+◌, ◌*◌, ◌/◌, ◌%◌, ◌≤◌, ◌<◌}
 use native.Mathlib.Omega.{arith}
-use Rattle.std.specs.Prelude.{◌≡◌, Bool}
+use Rattle.std.specs.Prelude.{◌≡◌, Bool, Option, Some, Ok}
 use Rattle.std.proofs.Math.Path.{refl, ap}
 use Rattle.std.proofs.Common.{sym, ◌∙◌}
 use Rattle.std.proofs.Math.Bool.{false}
@@ -11,21 +11,15 @@ use Rattle.std.proofs.Math.ListN.{drop}
 use borrow.Author.Tests.{lt-ltb, le-leb}
 use Rattle.types.specs.declared.Place.{Place}
 use Rattle.types.specs.Spellings.{past}
-use Rattle.heads.specs.declared.Byte.TheVariants as B
-use Rattle.heads.specs.declared.Word.TheVariants as W
 use Rattle.heads.specs.declared.ExprHead.TheVariants.{Free, Bound, Literal, Atomic, Extension, Truth, Binary, Associative, Unary, Quantified, Ascribed, Explicit}
 use Rattle.heads.specs.declared.PredHead.TheVariants.{Constant, Variable, Relational, Connective, Junction, Negation, Quantification, Simple, Multiple, Application}
 use Rattle.heads.specs.declared.DeclHead.TheVariants.{Plain, Typed, Annotated}
-use Rattle.heads.specs.declared.ExprAt.TheVariants as E
-use Rattle.heads.specs.declared.PredAt.TheVariants as P
-use Rattle.heads.specs.declared.DeclAt.TheVariants as D
-use Rattle.heads.specs.declared.RootAt.{RootAt}
-use Rattle.heads.specs.declared.RootAt.TheVariants as R
+use Rattle.heads.specs.declared.Root.{Root}
+use Rattle.heads.specs.declared.Root.TheVariants as R
 use Rattle.formula.specs.declared.St.{St}
-use Rattle.formula.specs.declared.Out.TheVariants.{Next}
 use Rattle.formula.specs.Tree.{Expr, free, bound, literal, atomic, extension, truth, binary, associative, unary, quantified, ascribed, explicit, Pred, constant, variable, relational, connective, junction, negation, quantification, simple, multiple, application, Target, targets}
 use Rattle.formula.specs.Spell.{spell, spell_pred, spell_target, spell_targets, size_targets, PlacedTargets}
-use Rattle.heads.specs.Heads.{place, name, byte_of, byte_at, on_byte, on_word, word_at, name_at, op_at, count_at, few_at, expr_body, expr_head, pred_body, pred_head, decl_body, decl_head, target_at, assignment_at, root_head}
+use Rattle.heads.specs.Heads.{place, name, byte_of, byte_at, on_part, word_at, name_at, op_at, count_at, few_at, expr_body, expr_head, pred_body, pred_head, decl_body, decl_head, target_at, assignment_at, root_head}
 use Rattle.heads.specs.Reads.{root-expression, root-predicate, root_assignment, assignment_becomes, assignment_in, assignment_such}
 use Rattle.formula.specs.Reader.{Got, ok, and_then, on_next, many, own_of}
 use Rattle.formula.specs.Parse.{target_by, target_in, targets_at}
@@ -37,7 +31,7 @@ state p k o = record { at = place p; slots = k; opened = o }
 
 -- ---- bytes at a place
 module _ (s : List ℕ) (p : ℕ) where
-  pub byte_here : (b : ℕ) (r : List ℕ) → drop p s ≡ b ∷ r → byte_at s (place p) ≡ B.Of b (place (p + 1))
+  pub byte_here : (b : ℕ) (r : List ℕ) → drop p s ≡ b ∷ r → byte_at s (place p) ≡ Some (b, (place (p + 1)))
   unfolding byte_at byte_of
   byte_here b r h = rw h
 
@@ -54,27 +48,27 @@ module _ (s : List ℕ) (p : ℕ) where
   after-four b c d e r h = past s p (b ∷ c ∷ d ∷ e ∷ []) r h
 
 module _ (s : List ℕ) (p : ℕ) where
-  pub word-here : (n : ℕ) (r : List ℕ) → drop p s ≡ n % 256 ∷ n / 256 ∷ r → word_at s (place p) ≡ W.Of n (place (p + 2))
-  unfolding word_at on_byte
+  pub word-here : (n : ℕ) (r : List ℕ) → drop p s ≡ n % 256 ∷ n / 256 ∷ r → word_at s (place p) ≡ Some (n, (place (p + 2)))
+  unfolding word_at on_part
   word-here n r h =
       let e : n % 256 + n / 256 * 256 ≡ n = omega arith in
       let q : p + 1 + 1 ≡ p + 2 = omega arith in
       rw (byte_here s p (n % 256) (n / 256 ∷ r) h, byte_here s (p + 1) (n / 256) r (after_one s p (n % 256) (n / 256 ∷ r) h), e, q)
 
-  pub name-here : (names n : ℕ) (r : List ℕ) → n < names → drop p s ≡ n % 256 ∷ n / 256 ∷ r → name_at names s (place p) ≡ W.Of n (place (p + 2))
-  unfolding name_at on_word
+  pub name-here : (names n : ℕ) (r : List ℕ) → n < names → drop p s ≡ n % 256 ∷ n / 256 ∷ r → name_at names s (place p) ≡ Some (n, (place (p + 2)))
+  unfolding name_at on_part
   name-here names n r l h = rw (word-here n r h, lt-ltb n names l)
 
-  pub count-here : (least n : ℕ) (r : List ℕ) → least ≤ n → drop p s ≡ n % 256 ∷ n / 256 ∷ r → count_at least s (place p) ≡ W.Of n (place (p + 2))
-  unfolding count_at on_word
+  pub count-here : (least n : ℕ) (r : List ℕ) → least ≤ n → drop p s ≡ n % 256 ∷ n / 256 ∷ r → count_at least s (place p) ≡ Some (n, (place (p + 2)))
+  unfolding count_at on_part
   count-here least n r l h = rw (word-here n r h, le-leb least n l)
 
-  pub op_here : (limit o : ℕ) (r : List ℕ) → o < limit → drop p s ≡ o ∷ r → op_at limit s (place p) ≡ B.Of o (place (p + 1))
-  unfolding op_at on_byte
+  pub op_here : (limit o : ℕ) (r : List ℕ) → o < limit → drop p s ≡ o ∷ r → op_at limit s (place p) ≡ Some (o, (place (p + 1)))
+  unfolding op_at on_part
   op_here limit o r l h = rw (byte_here s p o r h, lt-ltb o limit l)
 
-  pub few-here : (n : ℕ) (r : List ℕ) → 1 ≤ n → drop p s ≡ n ∷ r → few_at s (place p) ≡ B.Of n (place (p + 1))
-  unfolding few_at on_byte
+  pub few-here : (n : ℕ) (r : List ℕ) → 1 ≤ n → drop p s ≡ n ∷ r → few_at s (place p) ≡ Some (n, (place (p + 1)))
+  unfolding few_at on_part
   few-here n r l h = rw (byte_here s p n r h, le-leb 1 n l)
 
 -- ---- heads at a place
@@ -84,58 +78,58 @@ module _ (names : ℕ) (s : List ℕ) (bare : Bool) (p : ℕ) where
 
   module _ (k : ℕ) (r : List ℕ) (h : drop p s ≡ k ∷ r) where
     pub kind-here : expr_head names s bare (place p) ≡ expr_body names s bare k (place (p + 1))
-    unfolding expr_head on_byte
+    unfolding expr_head on_part
     kind-here = rw (byte_here s p k r h)
 
-  pub head-free : (n : ℕ) (r : List ℕ) → n < names → drop p s ≡ 0x01 ∷ n % 256 ∷ n / 256 ∷ r → expr_head names s bare (place p) ≡ E.Is (Free (name n) (place (p + 3)))
-  unfolding expr_body on_word
+  pub head-free : (n : ℕ) (r : List ℕ) → n < names → drop p s ≡ 0x01 ∷ n % 256 ∷ n / 256 ∷ r → expr_head names s bare (place p) ≡ Some (Free (name n) (place (p + 3)))
+  unfolding expr_body on_part
   head-free n r l h = kind-here 0x01 _ h ∙ (rw (name-here s (p + 1) names n r l (after_one s p _ _ h), plus 1 2 3 refl))
 
-  pub head-bound : (n : ℕ) (r : List ℕ) → drop p s ≡ 0x02 ∷ n % 256 ∷ n / 256 ∷ r → expr_head names s bare (place p) ≡ E.Is (Bound n (place (p + 3)))
-  unfolding expr_body on_word
+  pub head-bound : (n : ℕ) (r : List ℕ) → drop p s ≡ 0x02 ∷ n % 256 ∷ n / 256 ∷ r → expr_head names s bare (place p) ≡ Some (Bound n (place (p + 3)))
+  unfolding expr_body on_part
   head-bound n r h = kind-here 0x02 _ h ∙ (rw (word-here s (p + 1) n r (after_one s p _ _ h), plus 1 2 3 refl))
 
-  pub head-literal : (r : List ℕ) → drop p s ≡ 0x03 ∷ r → expr_head names s bare (place p) ≡ E.Is (Literal (place (p + 1)))
+  pub head-literal : (r : List ℕ) → drop p s ≡ 0x03 ∷ r → expr_head names s bare (place p) ≡ Some (Literal (place (p + 1)))
   unfolding expr_body
   head-literal r h = kind-here 0x03 r h
 
-  pub head-atomic : (o : ℕ) (r : List ℕ) → o < 12 → drop p s ≡ 0x04 ∷ o ∷ r → expr_head names s bare (place p) ≡ E.Is (Atomic o (place (p + 2)))
-  unfolding expr_body on_byte
+  pub head-atomic : (o : ℕ) (r : List ℕ) → o < 12 → drop p s ≡ 0x04 ∷ o ∷ r → expr_head names s bare (place p) ≡ Some (Atomic o (place (p + 2)))
+  unfolding expr_body on_part
   head-atomic o r l h = kind-here 0x04 _ h ∙ (rw (op_here s (p + 1) 12 o r l (after_one s p _ _ h), plus 1 1 2 refl))
 
-  pub head-extension : (n : ℕ) (r : List ℕ) → 1 ≤ n → drop p s ≡ 0x05 ∷ n % 256 ∷ n / 256 ∷ r → expr_head names s bare (place p) ≡ E.Is (Extension n (place (p + 3)))
-  unfolding expr_body on_word
+  pub head-extension : (n : ℕ) (r : List ℕ) → 1 ≤ n → drop p s ≡ 0x05 ∷ n % 256 ∷ n / 256 ∷ r → expr_head names s bare (place p) ≡ Some (Extension n (place (p + 3)))
+  unfolding expr_body on_part
   head-extension n r l h = kind-here 0x05 _ h ∙ (rw (count-here s (p + 1) 1 n r l (after_one s p _ _ h), plus 1 2 3 refl))
 
-  pub head-truth : (r : List ℕ) → drop p s ≡ 0x06 ∷ r → expr_head names s bare (place p) ≡ E.Is (Truth (place (p + 1)))
+  pub head-truth : (r : List ℕ) → drop p s ≡ 0x06 ∷ r → expr_head names s bare (place p) ≡ Some (Truth (place (p + 1)))
   unfolding expr_body
   head-truth r h = kind-here 0x06 r h
 
-  pub head-binary : (o : ℕ) (r : List ℕ) → o < 27 → drop p s ≡ 0x07 ∷ o ∷ r → expr_head names s bare (place p) ≡ E.Is (Binary o (place (p + 2)))
-  unfolding expr_body on_byte
+  pub head-binary : (o : ℕ) (r : List ℕ) → o < 27 → drop p s ≡ 0x07 ∷ o ∷ r → expr_head names s bare (place p) ≡ Some (Binary o (place (p + 2)))
+  unfolding expr_body on_part
   head-binary o r l h = kind-here 0x07 _ h ∙ (rw (op_here s (p + 1) 27 o r l (after_one s p _ _ h), plus 1 1 2 refl))
 
-  pub head-associative : (o n : ℕ) (r : List ℕ) → o < 7 → 2 ≤ n → drop p s ≡ 0x08 ∷ o ∷ n % 256 ∷ n / 256 ∷ r → expr_head names s bare (place p) ≡ E.Is (Associative o n (place (p + 4)))
-  unfolding expr_body on_byte on_word
+  pub head-associative : (o n : ℕ) (r : List ℕ) → o < 7 → 2 ≤ n → drop p s ≡ 0x08 ∷ o ∷ n % 256 ∷ n / 256 ∷ r → expr_head names s bare (place p) ≡ Some (Associative o n (place (p + 4)))
+  unfolding expr_body on_part
   head-associative o n r l m h =
       let q : p + 1 + 1 + 2 ≡ p + 4 = omega arith in
       kind-here 0x08 _ h ∙ (rw (op_here s (p + 1) 7 o _ l (after_one s p _ _ h), count-here s (p + 1 + 1) 2 n r m (after_one s (p + 1) _ _ (after_one s p _ _ h)), q))
 
-  pub head-unary : (o : ℕ) (r : List ℕ) → o < 11 → drop p s ≡ 0x09 ∷ o ∷ r → expr_head names s bare (place p) ≡ E.Is (Unary o (place (p + 2)))
-  unfolding expr_body on_byte
+  pub head-unary : (o : ℕ) (r : List ℕ) → o < 11 → drop p s ≡ 0x09 ∷ o ∷ r → expr_head names s bare (place p) ≡ Some (Unary o (place (p + 2)))
+  unfolding expr_body on_part
   head-unary o r l h = kind-here 0x09 _ h ∙ (rw (op_here s (p + 1) 11 o r l (after_one s p _ _ h), plus 1 1 2 refl))
 
-  pub head-quantified : (o n : ℕ) (r : List ℕ) → o < 3 → 1 ≤ n → drop p s ≡ 0x0A ∷ o ∷ n ∷ r → expr_head names s bare (place p) ≡ E.Is (Quantified o n (place (p + 3)))
-  unfolding expr_body on_byte
+  pub head-quantified : (o n : ℕ) (r : List ℕ) → o < 3 → 1 ≤ n → drop p s ≡ 0x0A ∷ o ∷ n ∷ r → expr_head names s bare (place p) ≡ Some (Quantified o n (place (p + 3)))
+  unfolding expr_body on_part
   head-quantified o n r l m h =
       let q : p + 1 + 1 + 1 ≡ p + 3 = omega arith in
       kind-here 0x0A _ h ∙ (rw (op_here s (p + 1) 3 o _ l (after_one s p _ _ h), few-here s (p + 1 + 1) n r m (after_one s (p + 1) _ _ (after_one s p _ _ h)), q))
 
-  pub head-ascribed : (r : List ℕ) → drop p s ≡ 0x0B ∷ r → expr_head names s bare (place p) ≡ E.Is (Ascribed (place (p + 1)))
+  pub head-ascribed : (r : List ℕ) → drop p s ≡ 0x0B ∷ r → expr_head names s bare (place p) ≡ Some (Ascribed (place (p + 1)))
   unfolding expr_body
   head-ascribed r h = kind-here 0x0B r h
 
-  pub head-explicit : (r : List ℕ) → bare ≡ false → drop p s ≡ 0x0C ∷ r → expr_head names s bare (place p) ≡ E.Is (Explicit (place (p + 1)))
+  pub head-explicit : (r : List ℕ) → bare ≡ false → drop p s ≡ 0x0C ∷ r → expr_head names s bare (place p) ≡ Some (Explicit (place (p + 1)))
   unfolding expr_body
   head-explicit r b h = kind-here 0x0C r h ∙ (rw b)
 
@@ -144,92 +138,92 @@ module _ (s : List ℕ) (p : ℕ) where
   more_by i j k h = omega arith
 
   pred_kind-here : (k : ℕ) (r : List ℕ) → drop p s ≡ k ∷ r → pred_head s (place p) ≡ pred_body s k (place (p + 1))
-  unfolding pred_head on_byte
+  unfolding pred_head on_part
   pred_kind-here k r h = rw (byte_here s p k r h)
 
-  pub head-constant : (r : List ℕ) → drop p s ≡ 0x20 ∷ r → pred_head s (place p) ≡ P.Is (Constant (place (p + 1)))
+  pub head-constant : (r : List ℕ) → drop p s ≡ 0x20 ∷ r → pred_head s (place p) ≡ Some (Constant (place (p + 1)))
   unfolding pred_body
   head-constant r h = pred_kind-here 0x20 r h
 
-  pub head-variable : (r : List ℕ) → drop p s ≡ 0x21 ∷ r → pred_head s (place p) ≡ P.Is (Variable (place (p + 1)))
+  pub head-variable : (r : List ℕ) → drop p s ≡ 0x21 ∷ r → pred_head s (place p) ≡ Some (Variable (place (p + 1)))
   unfolding pred_body
   head-variable r h = pred_kind-here 0x21 r h
 
-  pub head-relational : (o : ℕ) (r : List ℕ) → o < 12 → drop p s ≡ 0x22 ∷ o ∷ r → pred_head s (place p) ≡ P.Is (Relational o (place (p + 2)))
-  unfolding pred_body on_byte
+  pub head-relational : (o : ℕ) (r : List ℕ) → o < 12 → drop p s ≡ 0x22 ∷ o ∷ r → pred_head s (place p) ≡ Some (Relational o (place (p + 2)))
+  unfolding pred_body on_part
   head-relational o r l h = pred_kind-here 0x22 _ h ∙ (rw (op_here s (p + 1) 12 o r l (after_one s p _ _ h), more_by 1 1 2 refl))
 
-  pub head-connective : (r : List ℕ) → drop p s ≡ 0x23 ∷ r → pred_head s (place p) ≡ P.Is (Connective (place (p + 1)))
+  pub head-connective : (r : List ℕ) → drop p s ≡ 0x23 ∷ r → pred_head s (place p) ≡ Some (Connective (place (p + 1)))
   unfolding pred_body
   head-connective r h = pred_kind-here 0x23 r h
 
-  pub head-junction : (n : ℕ) (r : List ℕ) → 2 ≤ n → drop p s ≡ 0x24 ∷ n % 256 ∷ n / 256 ∷ r → pred_head s (place p) ≡ P.Is (Junction n (place (p + 3)))
-  unfolding pred_body on_word
+  pub head-junction : (n : ℕ) (r : List ℕ) → 2 ≤ n → drop p s ≡ 0x24 ∷ n % 256 ∷ n / 256 ∷ r → pred_head s (place p) ≡ Some (Junction n (place (p + 3)))
+  unfolding pred_body on_part
   head-junction n r l h = pred_kind-here 0x24 _ h ∙ (rw (count-here s (p + 1) 2 n r l (after_one s p _ _ h), more_by 1 2 3 refl))
 
-  pub head-negation : (r : List ℕ) → drop p s ≡ 0x25 ∷ r → pred_head s (place p) ≡ P.Is (Negation (place (p + 1)))
+  pub head-negation : (r : List ℕ) → drop p s ≡ 0x25 ∷ r → pred_head s (place p) ≡ Some (Negation (place (p + 1)))
   unfolding pred_body
   head-negation r h = pred_kind-here 0x25 r h
 
-  pub head-quantification : (n : ℕ) (r : List ℕ) → 1 ≤ n → drop p s ≡ 0x26 ∷ n ∷ r → pred_head s (place p) ≡ P.Is (Quantification n (place (p + 2)))
-  unfolding pred_body on_byte
+  pub head-quantification : (n : ℕ) (r : List ℕ) → 1 ≤ n → drop p s ≡ 0x26 ∷ n ∷ r → pred_head s (place p) ≡ Some (Quantification n (place (p + 2)))
+  unfolding pred_body on_part
   head-quantification n r l h = pred_kind-here 0x26 _ h ∙ (rw (few-here s (p + 1) n r l (after_one s p _ _ h), more_by 1 1 2 refl))
 
-  pub head-simple : (r : List ℕ) → drop p s ≡ 0x27 ∷ r → pred_head s (place p) ≡ P.Is (Simple (place (p + 1)))
+  pub head-simple : (r : List ℕ) → drop p s ≡ 0x27 ∷ r → pred_head s (place p) ≡ Some (Simple (place (p + 1)))
   unfolding pred_body
   head-simple r h = pred_kind-here 0x27 r h
 
-  pub head-multiple : (n : ℕ) (r : List ℕ) → 1 ≤ n → drop p s ≡ 0x28 ∷ n % 256 ∷ n / 256 ∷ r → pred_head s (place p) ≡ P.Is (Multiple n (place (p + 3)))
-  unfolding pred_body on_word
+  pub head-multiple : (n : ℕ) (r : List ℕ) → 1 ≤ n → drop p s ≡ 0x28 ∷ n % 256 ∷ n / 256 ∷ r → pred_head s (place p) ≡ Some (Multiple n (place (p + 3)))
+  unfolding pred_body on_part
   head-multiple n r l h = pred_kind-here 0x28 _ h ∙ (rw (count-here s (p + 1) 1 n r l (after_one s p _ _ h), more_by 1 2 3 refl))
 
-  pub head-application : (n : ℕ) (r : List ℕ) → drop p s ≡ 0x29 ∷ n % 256 ∷ n / 256 ∷ r → pred_head s (place p) ≡ P.Is (Application n (place (p + 3)))
-  unfolding pred_body on_word
+  pub head-application : (n : ℕ) (r : List ℕ) → drop p s ≡ 0x29 ∷ n % 256 ∷ n / 256 ∷ r → pred_head s (place p) ≡ Some (Application n (place (p + 3)))
+  unfolding pred_body on_part
   head-application n r h = pred_kind-here 0x29 _ h ∙ (rw (word-here s (p + 1) n r (after_one s p _ _ h), more_by 1 2 3 refl))
 
   decl_kind-here : (k : ℕ) (r : List ℕ) → drop p s ≡ k ∷ r → decl_head s (place p) ≡ decl_body k (place (p + 1))
-  unfolding decl_head on_byte
+  unfolding decl_head on_part
   decl_kind-here k r h = rw (byte_here s p k r h)
 
-  pub head_plain : (r : List ℕ) → drop p s ≡ 0x10 ∷ r → decl_head s (place p) ≡ D.Is (Plain (place (p + 1)))
+  pub head_plain : (r : List ℕ) → drop p s ≡ 0x10 ∷ r → decl_head s (place p) ≡ Some (Plain (place (p + 1)))
   unfolding decl_body
   head_plain r h = decl_kind-here 0x10 r h
 
-  pub head-typed : (r : List ℕ) → drop p s ≡ 0x11 ∷ r → decl_head s (place p) ≡ D.Is (Typed (place (p + 1)))
+  pub head-typed : (r : List ℕ) → drop p s ≡ 0x11 ∷ r → decl_head s (place p) ≡ Some (Typed (place (p + 1)))
   unfolding decl_body
   head-typed r h = decl_kind-here 0x11 r h
 
-  pub head-annotated : (r : List ℕ) → drop p s ≡ 0x12 ∷ r → decl_head s (place p) ≡ D.Is (Annotated (place (p + 1)))
+  pub head-annotated : (r : List ℕ) → drop p s ≡ 0x12 ∷ r → decl_head s (place p) ≡ Some (Annotated (place (p + 1)))
   unfolding decl_body
   head-annotated r h = decl_kind-here 0x12 r h
 
-  pub head-target : (names n : ℕ) (r : List ℕ) → n < names → drop p s ≡ 0x01 ∷ n % 256 ∷ n / 256 ∷ r → target_at names s (place p) ≡ W.Of n (place (p + 3))
-  unfolding target_at on_byte
+  pub head-target : (names n : ℕ) (r : List ℕ) → n < names → drop p s ≡ 0x01 ∷ n % 256 ∷ n / 256 ∷ r → target_at names s (place p) ≡ Some (n, (place (p + 3)))
+  unfolding target_at on_part
   head-target names n r l h = rw (byte_here s p 0x01 _ h, name-here s (p + 1) names n r l (after_one s p _ _ h), more_by 1 2 3 refl)
 
-  pub head-expression : (k : ℕ) (r : List ℕ) → k < 0x20 → drop p s ≡ k ∷ r → root_head s (place p) ≡ R.Expression
+  pub head-expression : (k : ℕ) (r : List ℕ) → k < 0x20 → drop p s ≡ k ∷ r → root_head s (place p) ≡ (Some R.Expression)
   head-expression k r l h = sym (root-expression s (place p) k (place (p + 1)) (byte_here s p k r h) l)
 
-  pub head-predicate : (k : ℕ) (r : List ℕ) → 0x20 ≤ k → k < 0x30 → drop p s ≡ k ∷ r → root_head s (place p) ≡ R.Predicate
+  pub head-predicate : (k : ℕ) (r : List ℕ) → 0x20 ≤ k → k < 0x30 → drop p s ≡ k ∷ r → root_head s (place p) ≡ (Some R.Predicate)
   head-predicate k r m l h = sym (root-predicate s (place p) k (place (p + 1)) (byte_here s p k r h) m l)
 
   -- an assignment of kind k, with n targets
-  assigns : (k n : ℕ) (r : List ℕ) (h : RootAt) → 0x30 ≤ k → 1 ≤ n → drop p s ≡ k ∷ n ∷ r → (few_at s (place (p + 1)) ≡ B.Of n (place (p + 2)) → h ≡ assignment_at s k (place (p + 1))) → root_head s (place p) ≡ h
+  assigns : (k n : ℕ) (r : List ℕ) (h : Option Root) → 0x30 ≤ k → 1 ≤ n → drop p s ≡ k ∷ n ∷ r → (few_at s (place (p + 1)) ≡ Some (n, (place (p + 2))) → h ≡ assignment_at s k (place (p + 1))) → root_head s (place p) ≡ h
   assigns k n r h l i e is =
-      let q : few_at s (place (p + 1)) ≡ B.Of n (place (p + 2)) = few-here s (p + 1) n r i (after_one s p k (n ∷ r) e) ∙ ap (λ (j : ℕ). B.Of n (place j)) (more_by 1 1 2 refl) in
+      let q : few_at s (place (p + 1)) ≡ Some (n, (place (p + 2))) = few-here s (p + 1) n r i (after_one s p k (n ∷ r) e) ∙ ap (λ (j : ℕ). Some (n, (place j))) (more_by 1 1 2 refl) in
       sym (is q ∙ root_assignment s (place p) k (place (p + 1)) (byte_here s p k (n ∷ r) e) l)
 
-  pub head-becomes : (n : ℕ) (r : List ℕ) → 1 ≤ n → drop p s ≡ 0x30 ∷ n ∷ r → root_head s (place p) ≡ R.Becomes n (place (p + 2))
-  head-becomes n r i h = assigns 0x30 n r (R.Becomes n (place (p + 2))) (omega arith) i h (λ q. assignment_becomes s 0x30 (place (p + 1)) n (place (p + 2)) q refl)
+  pub head-becomes : (n : ℕ) (r : List ℕ) → 1 ≤ n → drop p s ≡ 0x30 ∷ n ∷ r → root_head s (place p) ≡ Some (R.Becomes n (place (p + 2)))
+  head-becomes n r i h = assigns 0x30 n r (Some (R.Becomes n (place (p + 2)))) (omega arith) i h (λ q. assignment_becomes s 0x30 (place (p + 1)) n (place (p + 2)) q refl)
 
-  pub head-becomes_in : (n : ℕ) (r : List ℕ) → 1 ≤ n → drop p s ≡ 0x31 ∷ n ∷ r → root_head s (place p) ≡ R.BecomesIn n (place (p + 2))
-  head-becomes_in n r i h = assigns 0x31 n r (R.BecomesIn n (place (p + 2))) (omega arith) i h (λ q. assignment_in s 0x31 (place (p + 1)) n (place (p + 2)) q refl)
+  pub head-becomes_in : (n : ℕ) (r : List ℕ) → 1 ≤ n → drop p s ≡ 0x31 ∷ n ∷ r → root_head s (place p) ≡ Some (R.BecomesIn n (place (p + 2)))
+  head-becomes_in n r i h = assigns 0x31 n r (Some (R.BecomesIn n (place (p + 2)))) (omega arith) i h (λ q. assignment_in s 0x31 (place (p + 1)) n (place (p + 2)) q refl)
 
-  pub head-becomes_such : (n : ℕ) (r : List ℕ) → 1 ≤ n → drop p s ≡ 0x32 ∷ n ∷ r → root_head s (place p) ≡ R.BecomesSuch n (place (p + 2))
-  head-becomes_such n r i h = assigns 0x32 n r (R.BecomesSuch n (place (p + 2))) (omega arith) i h (λ q. assignment_such s 0x32 (place (p + 1)) n (place (p + 2)) q refl)
+  pub head-becomes_such : (n : ℕ) (r : List ℕ) → 1 ≤ n → drop p s ≡ 0x32 ∷ n ∷ r → root_head s (place p) ≡ Some (R.BecomesSuch n (place (p + 2)))
+  head-becomes_such n r i h = assigns 0x32 n r (Some (R.BecomesSuch n (place (p + 2)))) (omega arith) i h (λ q. assignment_such s 0x32 (place (p + 1)) n (place (p + 2)) q refl)
 
 -- ---- types and declarations
-pub own-here : (e : Place) (p k o : ℕ) → k < max_slots → own_of e (state p k o) ≡ Next (record { at = e; slots = k + 1; opened = o })
+pub own-here : (e : Place) (p k o : ℕ) → k < max_slots → own_of e (state p k o) ≡ Ok (record { at = e; slots = k + 1; opened = o })
 unfolding own_of
 own-here e p k o h = rw (lt-ltb k max_slots h)
 

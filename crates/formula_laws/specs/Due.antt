@@ -2,27 +2,18 @@
 -- A head (`Heads`) takes what is due off the stack and puts its parts there; the state counts the slots and the open declarations.
 -- No limit is asked for in that: `Goes` leads from the start over heads inside the limits, and `Passed` says that a head passes one.
 -- `FaultMeans` says by this what a fault's number means.
-use Rattle.std.specs.Prelude.{ℕ, zero, suc, ◌+◌, ◌≤◌, ◌<◌, ◌≡◌, ◌≢◌, Bool, true, false, List, [], ◌∷◌, ◌++◌, length, drop, ltb, eqb}
+use Rattle.std.specs.Prelude.{ℕ, zero, suc, ◌+◌, ◌≤◌, ◌<◌, ◌≡◌, ◌≢◌, Bool, true, false, List, [], ◌∷◌, ◌++◌, length, drop, ltb, eqb, Option, Some, None}
 use Rattle.types.specs.declared.Place.{Place}
 use Rattle.types.specs.Record.{Head, atomic, power, product, wrong, head_of}
 use Rattle.types.specs.Limits.{max_depth, max_slots, max_opened}
-use Rattle.heads.specs.declared.Byte.TheVariants as B
-use Rattle.heads.specs.declared.Word.{Word}
-use Rattle.heads.specs.declared.Word.TheVariants as W
 use Rattle.heads.specs.declared.ExprHead.{ExprHead}
 use Rattle.heads.specs.declared.ExprHead.TheVariants.{Free, Bound, Literal, Atomic, Extension, Truth, Binary, Associative, Unary, Quantified, Ascribed, Explicit}
 use Rattle.heads.specs.declared.PredHead.{PredHead}
 use Rattle.heads.specs.declared.PredHead.TheVariants.{Constant, Variable, Relational, Connective, Junction, Negation, Quantification, Simple, Multiple, Application}
 use Rattle.heads.specs.declared.DeclHead.{DeclHead}
 use Rattle.heads.specs.declared.DeclHead.TheVariants.{Plain, Typed, Annotated}
-use Rattle.heads.specs.declared.ExprAt.{ExprAt}
-use Rattle.heads.specs.declared.ExprAt.TheVariants as E
-use Rattle.heads.specs.declared.PredAt.{PredAt}
-use Rattle.heads.specs.declared.PredAt.TheVariants as P
-use Rattle.heads.specs.declared.DeclAt.{DeclAt}
-use Rattle.heads.specs.declared.DeclAt.TheVariants as D
 use Rattle.formula.specs.declared.St.{St}
-use Rattle.heads.specs.Heads.{pick, place, byte_at, on_byte, few_at, expr_head, pred_head, decl_head, target_at}
+use Rattle.heads.specs.Heads.{pick, place, byte_at, on_part, few_at, expr_head, pred_head, decl_head, target_at}
 use Rattle.formula.specs.Reader.{moved, closed}
 
 -- what is due, with the depth of its record; bare: an expression other than 0C
@@ -79,39 +70,39 @@ times (suc n) ds = ds ++ times n ds
 
 -- ---- parts, where these have depth d
 
-unfoldable pub expr_opens : ℕ → St → ExprAt → Opening
-expr_opens d st E.Wrong = absent
-expr_opens d st (E.Is (Free n e)) = opens [] (owned e st)
-expr_opens d st (E.Is (Bound i e)) = opens [] (owned e st)
-expr_opens d st (E.Is (Literal e)) = opens [] (owned e st)
-expr_opens d st (E.Is (Atomic o e)) = opens [] (owned e st)
-expr_opens d st (E.Is (Extension n e)) = opens (times n (expr_due false d ∷ [])) (owned e st)
-expr_opens d st (E.Is (Truth e)) = opens (pred_due d ∷ []) (owned e st)
-expr_opens d st (E.Is (Binary o e)) = opens (expr_due false d ∷ expr_due false d ∷ []) (owned e st)
-expr_opens d st (E.Is (Associative o n e)) = opens (times n (expr_due false d ∷ [])) (owned e st)
-expr_opens d st (E.Is (Unary o e)) = opens (expr_due false d ∷ []) (owned e st)
-expr_opens d st (E.Is (Quantified o n e)) = opens (times n (decl_due d ∷ []) ++ (pred_due d ∷ expr_due false d ∷ close_due st.opened ∷ [])) (owned e st)
-expr_opens d st (E.Is (Ascribed e)) = opens (expr_due false d ∷ spelling_due d ∷ []) (owned e st)
-expr_opens d st (E.Is (Explicit e)) = opens (type_due d ∷ expr_due true d ∷ []) (moved e st)
+unfoldable pub expr_opens : ℕ → St → Option ExprHead → Opening
+expr_opens d st None = absent
+expr_opens d st (Some (Free n e)) = opens [] (owned e st)
+expr_opens d st (Some (Bound i e)) = opens [] (owned e st)
+expr_opens d st (Some (Literal e)) = opens [] (owned e st)
+expr_opens d st (Some (Atomic o e)) = opens [] (owned e st)
+expr_opens d st (Some (Extension n e)) = opens (times n (expr_due false d ∷ [])) (owned e st)
+expr_opens d st (Some (Truth e)) = opens (pred_due d ∷ []) (owned e st)
+expr_opens d st (Some (Binary o e)) = opens (expr_due false d ∷ expr_due false d ∷ []) (owned e st)
+expr_opens d st (Some (Associative o n e)) = opens (times n (expr_due false d ∷ [])) (owned e st)
+expr_opens d st (Some (Unary o e)) = opens (expr_due false d ∷ []) (owned e st)
+expr_opens d st (Some (Quantified o n e)) = opens (times n (decl_due d ∷ []) ++ (pred_due d ∷ expr_due false d ∷ close_due st.opened ∷ [])) (owned e st)
+expr_opens d st (Some (Ascribed e)) = opens (expr_due false d ∷ spelling_due d ∷ []) (owned e st)
+expr_opens d st (Some (Explicit e)) = opens (type_due d ∷ expr_due true d ∷ []) (moved e st)
 
-unfoldable pub pred_opens : ℕ → St → PredAt → Opening
-pred_opens d st P.Wrong = absent
-pred_opens d st (P.Is (Constant e)) = opens [] (moved e st)
-pred_opens d st (P.Is (Variable e)) = opens [] (moved e st)
-pred_opens d st (P.Is (Relational o e)) = opens (expr_due false d ∷ expr_due false d ∷ []) (moved e st)
-pred_opens d st (P.Is (Connective e)) = opens (pred_due d ∷ pred_due d ∷ []) (moved e st)
-pred_opens d st (P.Is (Junction n e)) = opens (times n (pred_due d ∷ [])) (moved e st)
-pred_opens d st (P.Is (Negation e)) = opens (pred_due d ∷ []) (moved e st)
-pred_opens d st (P.Is (Quantification n e)) = opens (times n (decl_due d ∷ []) ++ (pred_due d ∷ close_due st.opened ∷ [])) (moved e st)
-pred_opens d st (P.Is (Simple e)) = opens (expr_due false d ∷ []) (moved e st)
-pred_opens d st (P.Is (Multiple n e)) = opens (times n (expr_due false d ∷ [])) (moved e st)
-pred_opens d st (P.Is (Application n e)) = opens (times n (expr_due false d ∷ [])) (moved e st)
+unfoldable pub pred_opens : ℕ → St → Option PredHead → Opening
+pred_opens d st None = absent
+pred_opens d st (Some (Constant e)) = opens [] (moved e st)
+pred_opens d st (Some (Variable e)) = opens [] (moved e st)
+pred_opens d st (Some (Relational o e)) = opens (expr_due false d ∷ expr_due false d ∷ []) (moved e st)
+pred_opens d st (Some (Connective e)) = opens (pred_due d ∷ pred_due d ∷ []) (moved e st)
+pred_opens d st (Some (Junction n e)) = opens (times n (pred_due d ∷ [])) (moved e st)
+pred_opens d st (Some (Negation e)) = opens (pred_due d ∷ []) (moved e st)
+pred_opens d st (Some (Quantification n e)) = opens (times n (decl_due d ∷ []) ++ (pred_due d ∷ close_due st.opened ∷ [])) (moved e st)
+pred_opens d st (Some (Simple e)) = opens (expr_due false d ∷ []) (moved e st)
+pred_opens d st (Some (Multiple n e)) = opens (times n (expr_due false d ∷ [])) (moved e st)
+pred_opens d st (Some (Application n e)) = opens (times n (expr_due false d ∷ [])) (moved e st)
 
-unfoldable pub decl_opens : ℕ → St → DeclAt → Opening
-decl_opens d st D.Wrong = absent
-decl_opens d st (D.Is (Plain e)) = opens [] (declared e st)
-decl_opens d st (D.Is (Typed e)) = opens (type_due d ∷ []) (declared e st)
-decl_opens d st (D.Is (Annotated e)) = opens (spelling_due d ∷ []) (declared e st)
+unfoldable pub decl_opens : ℕ → St → Option DeclHead → Opening
+decl_opens d st None = absent
+decl_opens d st (Some (Plain e)) = opens [] (declared e st)
+decl_opens d st (Some (Typed e)) = opens (type_due d ∷ []) (declared e st)
+decl_opens d st (Some (Annotated e)) = opens (spelling_due d ∷ []) (declared e st)
 
 unfoldable pub type_opens : ℕ → St → Head → Opening
 type_opens d st wrong = absent
@@ -119,9 +110,9 @@ type_opens d st (atomic a e) = opens [] (moved (place e) st)
 type_opens d st (power e) = opens (type_due d ∷ []) (moved (place e) st)
 type_opens d st (product e) = opens (type_due d ∷ type_due d ∷ []) (moved (place e) st)
 
-unfoldable pub target_opens : St → Word → Opening
-target_opens st W.Missing = absent
-target_opens st (W.Of n e) = opens [] (owned e st)
+unfoldable pub target_opens : St → Option (ℕ × Place) → Opening
+target_opens st None = absent
+target_opens st (Some (n, e)) = opens [] (owned e st)
 
 -- 4F, or a type
 unfoldable pub spelling_opens : ℕ → St → Head → ℕ → Place → Opening
@@ -154,7 +145,7 @@ module _ (names : ℕ) (s : List ℕ) where
   root_opens st k p =
       pick (ltb k 0x20) (opens (expr_due false 0 ∷ []) st)
       (pick (ltb k 0x30) (opens (pred_due 0 ∷ []) st)
-      (on_byte absent (few_at s p) (becomes_opens st k)))
+      (on_part absent (few_at s p) (becomes_opens st k)))
 
   -- the head of the type record at p
   unfoldable pub type_head : Place → Head
@@ -162,13 +153,13 @@ module _ (names : ℕ) (s : List ℕ) where
 
   -- what the bytes at a state's place say to what is due
   unfoldable pub open_of : Due → St → Opening
-  open_of formula_due st = on_byte absent (byte_at s st.at) (root_opens st)
+  open_of formula_due st = on_part absent (byte_at s st.at) (root_opens st)
   open_of target_due st = target_opens st (target_at names s st.at)
   open_of (expr_due bare d) st = expr_opens (suc d) st (expr_head names s bare st.at)
   open_of (pred_due d) st = pred_opens (suc d) st (pred_head s st.at)
   open_of (decl_due d) st = decl_opens (suc d) st (decl_head s st.at)
   open_of (type_due d) st = type_opens (suc d) st (type_head st.at)
-  open_of (spelling_due d) st = on_byte (type_opens (suc d) st (type_head st.at)) (byte_at s st.at) (spelling_opens (suc d) st (type_head st.at))
+  open_of (spelling_due d) st = on_part (type_opens (suc d) st (type_head st.at)) (byte_at s st.at) (spelling_opens (suc d) st (type_head st.at))
   open_of (close_due n) st = opens [] (closed n st)
   open_of end_due st = pick (ltb st.at.0 (length s)) absent (opens [] st)
 
@@ -181,27 +172,27 @@ module _ (names : ℕ) (s : List ℕ) where
 
   unfoldable pub Stands : Due → Place → Type 0
   Stands formula_due p = ⊥
-  Stands target_due p = (n : ℕ) × (e : Place) × (target_at names s p ≡ W.Of n e)
-  Stands (expr_due bare d) p = (h : ExprHead) × (expr_head names s bare p ≡ E.Is h)
-  Stands (pred_due d) p = (h : PredHead) × (pred_head s p ≡ P.Is h)
-  Stands (decl_due d) p = (h : DeclHead) × (decl_head s p ≡ D.Is h)
+  Stands target_due p = (n : ℕ) × (e : Place) × (target_at names s p ≡ Some (n, e))
+  Stands (expr_due bare d) p = (h : ExprHead) × (expr_head names s bare p ≡ Some h)
+  Stands (pred_due d) p = (h : PredHead) × (pred_head s p ≡ Some h)
+  Stands (decl_due d) p = (h : DeclHead) × (decl_head s p ≡ Some h)
   Stands (type_due d) p = type_head p ≢ wrong
-  Stands (spelling_due d) p = ((e : Place) → byte_at s p ≢ B.Of 0x4F e) → type_head p ≢ wrong
+  Stands (spelling_due d) p = ((e : Place) → byte_at s p ≢ Some (0x4F, e)) → type_head p ≢ wrong
   Stands (close_due n) p = ⊥
   Stands end_due p = ⊥
 
   -- an assignment's kind has its count behind it
   unfoldable pub Assigns : ℕ → Place → Type 0
-  Assigns k e = (n : ℕ) × (q : Place) × (few_at s e ≡ B.Of (suc n) q) × (0x30 ≤ k) × (k ≤ 0x32)
+  Assigns k e = (n : ℕ) × (q : Place) × (few_at s e ≡ Some ((suc n), q)) × (0x30 ≤ k) × (k ≤ 0x32)
 
   -- no formula: no byte, or one at or above 30 that begins no assignment
   unfoldable pub Lacks : Due → Place → Type 0
-  Lacks formula_due p = (k : ℕ) (e : Place) → byte_at s p ≡ B.Of k e → (0x30 ≤ k) × (Assigns k e → ⊥)
-  Lacks target_due p = target_at names s p ≡ W.Missing
-  Lacks (expr_due bare d) p = expr_head names s bare p ≡ E.Wrong
-  Lacks (pred_due d) p = pred_head s p ≡ P.Wrong
-  Lacks (decl_due d) p = decl_head s p ≡ D.Wrong
+  Lacks formula_due p = (k : ℕ) (e : Place) → byte_at s p ≡ Some (k, e) → (0x30 ≤ k) × (Assigns k e → ⊥)
+  Lacks target_due p = target_at names s p ≡ None
+  Lacks (expr_due bare d) p = expr_head names s bare p ≡ None
+  Lacks (pred_due d) p = pred_head s p ≡ None
+  Lacks (decl_due d) p = decl_head s p ≡ None
   Lacks (type_due d) p = type_head p ≡ wrong
-  Lacks (spelling_due d) p = (type_head p ≡ wrong) × ((e : Place) → byte_at s p ≢ B.Of 0x4F e)
+  Lacks (spelling_due d) p = (type_head p ≡ wrong) × ((e : Place) → byte_at s p ≢ Some (0x4F, e))
   Lacks (close_due n) p = ⊥
   Lacks end_due p = p.0 < length s

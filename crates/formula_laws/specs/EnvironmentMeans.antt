@@ -5,7 +5,7 @@
 -- Theorems that rest on what must-fail edits change stand in proofs/EnvironmentMeans.antt.
 use Prim.Native.Nat.{ℕ, ◌<◌}
 use Rattle.std.proofs.Math.Path.{◌≡◌}
-use Rattle.std.specs.Prelude.{◌≢◌, get_or, drop}
+use Rattle.std.specs.Prelude.{◌≢◌, get_or, drop, Some, None}
 use mathlib.Core.List.{List, [], ◌∷◌, ◌++◌}
 use Rattle.std.proofs.Math.ListN.{length}
 use Rattle.types.specs.declared.Place.{Place}
@@ -13,9 +13,8 @@ use Rattle.types.specs.Ty.{Ty}
 use Rattle.types.specs.Record.{wrong, head_of, got, type_at}
 use Rattle.types.specs.Faults.{level, Leads}
 use Rattle.types.specs.Limits.{max_depth}
-use Rattle.heads.specs.declared.Word.TheVariants as W
-use Rattle.formula.specs.declared.Fault.{Fault}
-use Rattle.formula.specs.declared.Fault.TheVariants.{Malformed, Beyond}
+use Rattle.types.specs.declared.Fault.{Fault}
+use Rattle.types.specs.declared.Fault.TheVariants.{Malformed, Beyond}
 use Rattle.formula.specs.Environment.{lacks, holds, Entries, lookup}
 use Rattle.heads.specs.Heads.{place}
 use Rattle.formula.specs.EnvParse.{entry_at, capped}
@@ -24,16 +23,16 @@ module _ (names : ℕ) (s : List ℕ) where
   -- the entries seen stand before p
   pub data Enters : Entries → ℕ → Type 0 where
     at_start : Enters [] 0
-    after_entry : {seen : Entries} {p n f : ℕ} {e : Place} {t : Ty} → Enters seen p → entry_at names s (place p) ≡ W.Of n e → lookup seen n ≡ lacks → type_at max_depth names s e.0 ≡ got t f → Enters (seen ++ ((n, t) ∷ [])) f
+    after_entry : {seen : Entries} {p n f : ℕ} {e : Place} {t : Ty} → Enters seen p → entry_at names s (place p) ≡ Some (n, e) → lookup seen n ≡ lacks → type_at max_depth names s e.0 ≡ got t f → Enters (seen ++ ((n, t) ∷ [])) f
 
   -- the fault of the entry at p, after those seen; an entry has depth 0, its type depth 1
-  pub data EntryFault (seen : Entries) (p : ℕ) : Fault → Type 0 where
-    no_entry : p < length s → entry_at names s (place p) ≡ W.Missing → EntryFault seen p (Malformed (place p))
-    second-entry : {n : ℕ} {e : Place} {t : Ty} → entry_at names s (place p) ≡ W.Of n e → lookup seen n ≡ holds t → EntryFault seen p (Malformed (place p))
-    bad-type : {n q : ℕ} {e : Place} → entry_at names s (place p) ≡ W.Of n e → lookup seen n ≡ lacks → Leads max_depth names s e.0 q → head_of names q (drop q s) ≡ wrong → EntryFault seen p (Malformed (place q))
-    deep-type : {n q : ℕ} {e : Place} → entry_at names s (place p) ≡ W.Of n e → lookup seen n ≡ lacks → (l : Leads max_depth names s e.0 q) → level l.way ≡ max_depth → head_of names q (drop q s) ≢ wrong → EntryFault seen p (Beyond (place q))
+  pub data EntryFault (seen : Entries) (p : ℕ) : Fault Place → Type 0 where
+    no_entry : p < length s → entry_at names s (place p) ≡ None → EntryFault seen p (Malformed (place p))
+    second-entry : {n : ℕ} {e : Place} {t : Ty} → entry_at names s (place p) ≡ Some (n, e) → lookup seen n ≡ holds t → EntryFault seen p (Malformed (place p))
+    bad-type : {n q : ℕ} {e : Place} → entry_at names s (place p) ≡ Some (n, e) → lookup seen n ≡ lacks → Leads max_depth names s e.0 q → head_of names q (drop q s) ≡ wrong → EntryFault seen p (Malformed (place q))
+    deep-type : {n q : ℕ} {e : Place} → entry_at names s (place p) ≡ Some (n, e) → lookup seen n ≡ lacks → (l : Leads max_depth names s e.0 q) → level l.way ≡ max_depth → head_of names q (drop q s) ≢ wrong → EntryFault seen p (Beyond (place q))
 
-  pub record Stops (f : Fault) : Type 0 where
+  pub record Stops (f : Fault Place) : Type 0 where
     pub seen : Entries
     pub entry : ℕ
     pub enters : Enters seen entry
@@ -48,7 +47,7 @@ module _ (names : ℕ) (s : List ℕ) (bytes : (i : ℕ) → get_or s i 0 < 256)
     pub enters : Enters (capped names) s seen entry
     pub name : ℕ
     pub type : Place
-    pub stands : entry_at (capped names) s (place entry) ≡ W.Of name type
+    pub stands : entry_at (capped names) s (place entry) ≡ Some (name, type)
     pub fresh : lookup seen name ≡ lacks
     pub leads : Leads max_depth (capped names) s type.0 p.0
     pub depth : level leads.way ≡ max_depth

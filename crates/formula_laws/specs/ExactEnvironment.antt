@@ -1,17 +1,16 @@
 -- An environment is accepted exactly if its bytes are the spelling of entries with distinct names inside the limits; those entries are unique.
 -- Theorems that rest on what must-fail edits change stand in proofs/ExactEnvironment.antt.
+use Rattle.types.specs.declared.Place.{Place}
 use Prim.Native.Nat.{ℕ, ◌/◌, ◌%◌, ◌≤◌, ◌<◌}
 use native.Mathlib.Omega.{arith}
 use Rattle.std.proofs.Math.Path.{◌≡◌, refl, sym}
 use Rattle.std.proofs.Common.{◌∙◌}
-use Rattle.std.specs.Prelude.{Bool, get_or, eqb}
+use Rattle.std.specs.Prelude.{Bool, get_or, eqb, Option, Some, None}
 use Rattle.std.proofs.Math.Bool.{true, false}
 use mathlib.Core.List.{List, [], ◌∷◌, ◌++◌}
 use Rattle.std.proofs.Math.ListN.{length, drop}
 use Rattle.std.proofs.lemmas.Bool.{eqb-false}
 use Rattle.types.specs.Ty.{Ty}
-use Rattle.heads.specs.declared.Word.{Word}
-use Rattle.heads.specs.declared.Word.TheVariants as W
 use Rattle.formula.specs.Environment.{lacks, holds, Entries, first, lookup, Distinct, spell_entries}
 use Rattle.formula.specs.EnvParse.{capped}
 use Rattle.formula.specs.EnvSteps.{lookup-other}
@@ -48,9 +47,9 @@ distinct-last (e ∷ es) n t d h =
     (lookup-other es n t e.0 (λ z. k.0 (sym z)) ∙ d.0, distinct-last es n t d.1 k.1)
 
 -- ---- an entry's head
-unfoldable pub EntrySays : ℕ → List ℕ → ℕ → Word → Type 0
-EntrySays names s p W.Missing = Unit {0}
-EntrySays names s p (W.Of n e) = (n < names) × Stand s p (0x50 ∷ n % 256 ∷ n / 256 ∷ []) e.0
+unfoldable pub EntrySays : ℕ → List ℕ → ℕ → Option (ℕ × Place) → Type 0
+EntrySays names s p None = Unit {0}
+EntrySays names s p (Some (n, e)) = (n < names) × Stand s p (0x50 ∷ n % 256 ∷ n / 256 ∷ []) e.0
 
 -- ---- what is parsed is spelled
 module _ (names : ℕ) (s : List ℕ) (bytes : (i : ℕ) → get_or s i 0 < 256) where

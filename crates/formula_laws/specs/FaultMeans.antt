@@ -2,11 +2,12 @@
 -- `beyond_means`: of a limit, what is due there stands there and passes the limit. So a limit is told only of a record that is well formed itself.
 -- `malformed_means_formula`: of a malformed record, what is due there does not stand there, or bytes are left over. No limit has a part in it.
 -- `fault-told` and `told-fault` say both at once, exactly: a stream that is not too long has the fault that is told of what is due, and no other.
+use Rattle.heads.specs.Reads.{same_part}
 use Prim.Native.Nat.{ℕ, zero, suc, ◌+◌, ◌≤◌, ◌<◌}
 use native.Mathlib.Omega.{arith}
 use Rattle.std.proofs.Math.Path.{◌≡◌, refl, sym, ap}
 use Rattle.std.proofs.Common.{◌∙◌}
-use Rattle.std.specs.Prelude.{◌≢◌, Bool, length, drop}
+use Rattle.std.specs.Prelude.{◌≢◌, Bool, length, drop, Option, Some, None, Ok, Err}
 use Rattle.std.proofs.Math.Bool.{true, false}
 use mathlib.Core.List.{List, [], ◌∷◌, ◌++◌, append_assoc}
 use Rattle.std.proofs.Math.Dec.{ltb, eqb}
@@ -16,28 +17,17 @@ use Rattle.types.specs.Ty.{Ty, base, pow, prod}
 use Rattle.types.specs.Record as R
 use Rattle.types.specs.Record.{Head, atomic, power, product, wrong, head_of, TypeAt, got, malformed, deep, deep_by, type_by, type_at}
 use Rattle.types.specs.Limits.{max_bytes, max_depth, max_slots, max_opened, levels}
-use Rattle.heads.specs.declared.Byte.{Byte}
-use Rattle.heads.specs.declared.Byte.TheVariants as B
-use Rattle.heads.specs.declared.Word.{Word}
-use Rattle.heads.specs.declared.Word.TheVariants as W
 use Rattle.heads.specs.declared.ExprHead.{ExprHead}
 use Rattle.heads.specs.declared.ExprHead.TheVariants.{Free, Bound, Literal, Atomic, Extension, Truth, Binary, Associative, Unary, Quantified, Ascribed, Explicit}
 use Rattle.heads.specs.declared.PredHead.{PredHead}
 use Rattle.heads.specs.declared.PredHead.TheVariants.{Constant, Variable, Relational, Connective, Junction, Negation, Quantification, Simple, Multiple, Application}
 use Rattle.heads.specs.declared.DeclHead.{DeclHead}
 use Rattle.heads.specs.declared.DeclHead.TheVariants.{Plain, Typed, Annotated}
-use Rattle.heads.specs.declared.ExprAt.{ExprAt}
-use Rattle.heads.specs.declared.ExprAt.TheVariants as E
-use Rattle.heads.specs.declared.PredAt.{PredAt}
-use Rattle.heads.specs.declared.PredAt.TheVariants as P
-use Rattle.heads.specs.declared.DeclAt.{DeclAt}
-use Rattle.heads.specs.declared.DeclAt.TheVariants as D
 use Rattle.formula.specs.declared.St.{St}
-use Rattle.formula.specs.declared.Fault.{Fault}
-use Rattle.formula.specs.declared.Fault.TheVariants.{Malformed, Beyond}
-use Rattle.formula.specs.declared.Out.TheVariants.{Next, Stop}
+use Rattle.types.specs.declared.Fault.{Fault}
+use Rattle.types.specs.declared.Fault.TheVariants.{Malformed, Beyond}
 use Rattle.formula.specs.Tree.{Spelling, spells, no_type, Decl, Expr, none, more, Pred, end, also, Target, Formula, expression, predicate, becomes, becomes_in, becomes_such}
-use Rattle.heads.specs.Heads.{pick, place, byte_at, on_byte, few_at, expr_head, pred_head, decl_head, target_at}
+use Rattle.heads.specs.Heads.{pick, place, byte_at, on_part, few_at, expr_head, pred_head, decl_head, target_at}
 use Rattle.formula.specs.Reader.{Got, ok, bad, and_then, on_next, many, moved, own_of, declare_of, closed, closing, type_got, type_in, read_no_type, spelled_in, spelling_in}
 use Rattle.formula.specs.Parse.{decl_by, decl_if, decl_at, decls_at, expr_by, pred_by, expr_if, pred_if, expr_deep, pred_deep, expr_at, pred_at, target_by, target_in, pair_in, targets_at, pairs_at, becomes_by, becomes_at, root_by, start, formula_at, finish, whole, too_long, faulty, parsed_by, parse_of}
 use Rattle.formula_laws.specs.Due.{Due, formula_due, target_due, expr_due, pred_due, decl_due, type_due, spelling_due, close_due, end_due, depth_due, Limited, Opening, opens, absent, owned, declared, times, expr_opens, pred_opens, decl_opens, type_opens, target_opens, becomes_opens, root_opens, spelling_opens, type_head, open_of, Within, Stands, Assigns, Lacks, Goes, stay, onward, Passed, too_deep, too_many, too_open}
@@ -52,12 +42,12 @@ module _ (names : ℕ) (s : List ℕ) where
     pub passed : Passed d next
 
   -- a fault told of what is due in a state
-  unfoldable pub Meant : Due → St → Fault → Type 0
+  unfoldable pub Meant : Due → St → Fault Place → Type 0
   Meant d t (Malformed p) = (t.at ≡ p) × (open_of names s d t ≡ absent)
   Meant d t (Beyond p) = (t.at ≡ p) × Passes d t
 
   -- from a state and a stack some state is reached of which the fault is told
-  pub record Told (t : St) (k : List Due) (f : Fault) : Type 0 where
+  pub record Told (t : St) (k : List Due) (f : Fault Place) : Type 0 where
     pub state : St
     pub due : Due
     pub later : List Due
@@ -79,7 +69,7 @@ module _ (names : ℕ) (s : List ℕ) where
   goes_join stay h = h
   goes_join (onward e w g) h = onward e w (goes_join g h)
 
-  told_join : {t u : St} {k l : List Due} {f : Fault} → Goes names s t k u l → Told u l f → Told t k f
+  told_join : {t u : St} {k l : List Due} {f : Fault Place} → Goes names s t k u l → Told u l f → Told t k f
   told_join g h = record { state = h.state; due = h.due; later = h.later; goes = goes_join g h.goes; meant = h.meant }
 
   reads_none : {A : Type 0} (t : St) (a : A) → Reads [] t (ok t a)
@@ -146,7 +136,7 @@ module _ (names : ℕ) (s : List ℕ) where
     unfolding own_of on_next owned
     reads-own {A} c i h = go (ltb t.slots max_slots) refl
       where
-        go : (b : Bool) → ltb t.slots max_slots ≡ b → Reads (d ∷ []) t (on_next (pick b (Next (owned e t)) (Stop (Beyond t.at))) c)
+        go : (b : Bool) → ltb t.slots max_slots ≡ b → Reads (d ∷ []) t (on_next (pick b (Ok (owned e t)) (Err (Beyond t.at))) c)
         go true k = reads_open d ds t (owned e t) _ i (own-low k) h
         go false k = reads-passed A d r ds t (owned e t) i (own-passed k)
 
@@ -154,7 +144,7 @@ module _ (names : ℕ) (s : List ℕ) where
     unfolding own_of on_next owned closing
     reads-own-closing {A} n c i h = go (ltb t.slots max_slots) refl
       where
-        go : (b : Bool) → ltb t.slots max_slots ≡ b → Reads (d ∷ []) t (closing n (on_next (pick b (Next (owned e t)) (Stop (Beyond t.at))) c))
+        go : (b : Bool) → ltb t.slots max_slots ≡ b → Reads (d ∷ []) t (closing n (on_next (pick b (Ok (owned e t)) (Err (Beyond t.at))) c))
         go true k = reads_open d ds t (owned e t) _ i (own-low k) h
         go false k = reads-passed A d r ds t (owned e t) i (own-passed k)
 
@@ -162,7 +152,7 @@ module _ (names : ℕ) (s : List ℕ) where
     unfolding declare_of on_next declared Low Within
     reads-declare {A} c i h = go (ltb t.opened max_opened) (ltb t.slots max_slots) refl refl
       where
-        go : (b x : Bool) → ltb t.opened max_opened ≡ b → ltb t.slots max_slots ≡ x → Reads (d ∷ []) t (on_next (pick b (pick x (Next (declared e t)) (Stop (Beyond t.at))) (Stop (Beyond t.at))) c)
+        go : (b x : Bool) → ltb t.opened max_opened ≡ b → ltb t.slots max_slots ≡ x → Reads (d ∷ []) t (on_next (pick b (pick x (Ok (declared e t)) (Err (Beyond t.at))) (Err (Beyond t.at))) c)
         go true true k j = reads_open d ds t (declared e t) _ i (λ w. (l, (let z = ltb-true t.slots max_slots j in omega arith), (let z = ltb-true t.opened max_opened k in omega arith))) h
         go true false k j = reads-passed A d r ds t (declared e t) i (too_many (let z = ltb-false t.slots max_slots j in omega arith))
         go false x k j = reads-passed A d r ds t (declared e t) i (too_open (let z = ltb-false t.opened max_opened k in omega arith))
@@ -218,11 +208,11 @@ module _ (names : ℕ) (s : List ℕ) where
   none_reads (suc left) d l st e i = reads-move (spelling_due d) [] e st _ (omega arith) i (reads_none (moved e st) no_type)
 
   spelling_reads : (left d : ℕ) → d + left ≡ levels → (st : St) → Reads (spelling_due d ∷ []) st (spelling_in names s left st)
-  unfolding spelling_in on_byte open_of spelling_opens
+  unfolding spelling_in on_part open_of spelling_opens
   spelling_reads left d l st = by_byte (byte_at s st.at) refl
     where
-      said : Byte → Opening
-      said b = on_byte (type_opens (suc d) st (type_head names s st.at)) b (spelling_opens (suc d) st (type_head names s st.at))
+      said : Option (ℕ × Place) → Opening
+      said b = on_part (type_opens (suc d) st (type_head names s st.at)) b (spelling_opens (suc d) st (type_head names s st.at))
 
       kind : (e : Place) → Bool → Opening
       kind e c = pick c (opens [] (moved e st)) (type_opens (suc d) st (type_head names s st.at))
@@ -231,17 +221,17 @@ module _ (names : ℕ) (s : List ℕ) where
       by_kind k e i true j = none_reads left d l st e (i ∙ ap (kind e) j)
       by_kind k e i false j = spelled-reads left d l st (i ∙ ap (kind e) j)
 
-      by_byte : (b : Byte) → byte_at s st.at ≡ b → Reads (spelling_due d ∷ []) st (on_byte (spelled_in names s left st) b λ k e. pick (eqb k 0x4F) (read_no_type left e st) (spelled_in names s left st))
-      by_byte B.Missing i = spelled-reads left d l st (ap said i)
-      by_byte (B.Of k e) i = by_kind k e (ap said i) (eqb k 0x4F) refl
+      by_byte : (b : Option (ℕ × Place)) → byte_at s st.at ≡ b → Reads (spelling_due d ∷ []) st (on_part (spelled_in names s left st) b λ k e. pick (eqb k 0x4F) (read_no_type left e st) (spelled_in names s left st))
+      by_byte None i = spelled-reads left d l st (ap said i)
+      by_byte (Some (k, e)) i = by_kind k e (ap said i) (eqb k 0x4F) refl
 
-  decl_by_lem : (left d : ℕ) → suc d + left ≡ levels → (st : St) (h : DeclHead) → decl_head s st.at ≡ D.Is h → Reads (decl_due d ∷ []) st (decl_by names s left st h)
+  decl_by_lem : (left d : ℕ) → suc d + left ≡ levels → (st : St) (h : DeclHead) → decl_head s st.at ≡ Some h → Reads (decl_due d ∷ []) st (decl_by names s left st h)
   unfolding decl_by open_of decl_opens depth_due Limited
   decl_by_lem left d l st (Plain e) q = reads-declare (decl_due d) tt [] e st (omega arith) _ (ap (decl_opens (suc d) st) q) (reads_none _ _)
   decl_by_lem left d l st (Typed e) q = reads-declare (decl_due d) tt _ e st (omega arith) _ (ap (decl_opens (suc d) st) q) (reads-last _ _ (type_in names s left (declared e st)) _ (type_in_lem left (suc d) l (declared e st)))
   decl_by_lem left d l st (Annotated e) q = reads-declare (decl_due d) tt _ e st (omega arith) _ (ap (decl_opens (suc d) st) q) (reads-last _ _ (spelling_in names s left (declared e st)) _ (spelling_reads left (suc d) l (declared e st)))
 
-  decl_deep : (d : ℕ) → max_depth < d → (st : St) (h : DeclHead) → decl_head s st.at ≡ D.Is h → Reads {A = Decl} (decl_due d ∷ []) st (bad (Beyond st.at))
+  decl_deep : (d : ℕ) → max_depth < d → (st : St) (h : DeclHead) → decl_head s st.at ≡ Some h → Reads {A = Decl} (decl_due d ∷ []) st (bad (Beyond st.at))
   unfolding open_of decl_opens depth_due Limited
   decl_deep d l st (Plain e) q = reads-passed Decl (decl_due d) tt _ st _ (ap (decl_opens (suc d) st) q) (too_deep l)
   decl_deep d l st (Typed e) q = reads-passed Decl (decl_due d) tt _ st _ (ap (decl_opens (suc d) st) q) (too_deep l)
@@ -251,10 +241,10 @@ module _ (names : ℕ) (s : List ℕ) where
   unfolding decl_at decl_if open_of decl_opens
   decl_reads left d l st = go left l (decl_head s st.at) refl
     where
-      go : (left : ℕ) → d + left ≡ levels → (h : DeclAt) → decl_head s st.at ≡ h → Reads (decl_due d ∷ []) st (decl_if names s left st h)
-      go left l D.Wrong q = reads-absent Decl (decl_due d) st (ap (decl_opens (suc d) st) q)
-      go zero l (D.Is h) q = decl_deep d (omega arith) st h q
-      go (suc left) l (D.Is h) q = decl_by_lem left d (let i : suc d + left ≡ levels = omega arith in i) st h q
+      go : (left : ℕ) → d + left ≡ levels → (h : Option DeclHead) → decl_head s st.at ≡ h → Reads (decl_due d ∷ []) st (decl_if names s left st h)
+      go left l None q = reads-absent Decl (decl_due d) st (ap (decl_opens (suc d) st) q)
+      go zero l (Some h) q = decl_deep d (omega arith) st h q
+      go (suc left) l (Some h) q = decl_by_lem left d (let i : suc d + left ≡ levels = omega arith in i) st h q
 
   decls-reads : (left d : ℕ) → d + left ≡ levels → (n : ℕ) (st : St) → Reads (times n (decl_due d ∷ [])) st (decls_at names s left n st)
   unfolding decls_at
@@ -263,7 +253,7 @@ module _ (names : ℕ) (s : List ℕ) where
   -- ---- expressions and predicates
 
   module _ (left d : ℕ) (l : suc d + left ≡ levels) (X : Bool → St → Got Expr) (Q : St → Got Pred) (x : (b : Bool) (t : St) → Reads (expr_due b (suc d) ∷ []) t (X b t)) (y : (t : St) → Reads (pred_due (suc d) ∷ []) t (Q t)) (st : St) where
-    expr-by : (bare : Bool) (h : ExprHead) → expr_head names s bare st.at ≡ E.Is h → Reads (expr_due bare d ∷ []) st (expr_by names s left X Q st h)
+    expr-by : (bare : Bool) (h : ExprHead) → expr_head names s bare st.at ≡ Some h → Reads (expr_due bare d ∷ []) st (expr_by names s left X Q st h)
     unfolding expr_by open_of expr_opens depth_due Limited owned
     expr-by bare (Free n e) q = reads-own (expr_due bare d) tt [] e st (omega arith) _ (ap (expr_opens (suc d) st) q) (reads_none _ _)
     expr-by bare (Bound i e) q = reads-own (expr_due bare d) tt [] e st (omega arith) _ (ap (expr_opens (suc d) st) q) (reads_none _ _)
@@ -288,7 +278,7 @@ module _ (names : ℕ) (s : List ℕ) where
         reads-move (expr_due bare d) _ e st _ (omega arith) (ap (expr_opens (suc d) st) q)
         (reads_then (type_due (suc d) ∷ []) (expr_due true (suc d) ∷ []) _ (type_in names s left (moved e st)) _ (type_in_lem left (suc d) l (moved e st)) (λ a t. reads-last _ t (X true t) _ (x true t)))
 
-    pred_by_lem : (h : PredHead) → pred_head s st.at ≡ P.Is h → Reads (pred_due d ∷ []) st (pred_by names s left X Q st h)
+    pred_by_lem : (h : PredHead) → pred_head s st.at ≡ Some h → Reads (pred_due d ∷ []) st (pred_by names s left X Q st h)
     unfolding pred_by open_of pred_opens depth_due Limited moved
     pred_by_lem (Constant e) q = reads-move (pred_due d) [] e st _ (omega arith) (ap (pred_opens (suc d) st) q) (reads_none _ _)
     pred_by_lem (Variable e) q = reads-move (pred_due d) [] e st _ (omega arith) (ap (pred_opens (suc d) st) q) (reads_none _ _)
@@ -308,21 +298,21 @@ module _ (names : ℕ) (s : List ℕ) where
     pred_by_lem (Multiple n e) q = reads-move (pred_due d) _ e st _ (omega arith) (ap (pred_opens (suc d) st) q) (reads-last _ _ (many none more (X false) n (moved e st)) _ (reads-many none more (X false) _ (x false) n (moved e st)))
     pred_by_lem (Application n e) q = reads-move (pred_due d) _ e st _ (omega arith) (ap (pred_opens (suc d) st) q) (reads-last _ _ (many none more (X false) n (moved e st)) _ (reads-many none more (X false) _ (x false) n (moved e st)))
 
-    expr_if_lem : (bare : Bool) (h : ExprAt) → expr_head names s bare st.at ≡ h → Reads (expr_due bare d ∷ []) st (expr_if names s left X Q st h)
+    expr_if_lem : (bare : Bool) (h : Option ExprHead) → expr_head names s bare st.at ≡ h → Reads (expr_due bare d ∷ []) st (expr_if names s left X Q st h)
     unfolding expr_if open_of expr_opens
-    expr_if_lem bare E.Wrong q = reads-absent Expr (expr_due bare d) st (ap (expr_opens (suc d) st) q)
-    expr_if_lem bare (E.Is h) q = expr-by bare h q
+    expr_if_lem bare None q = reads-absent Expr (expr_due bare d) st (ap (expr_opens (suc d) st) q)
+    expr_if_lem bare (Some h) q = expr-by bare h q
 
-    pred_if_lem : (h : PredAt) → pred_head s st.at ≡ h → Reads (pred_due d ∷ []) st (pred_if names s left X Q st h)
+    pred_if_lem : (h : Option PredHead) → pred_head s st.at ≡ h → Reads (pred_due d ∷ []) st (pred_if names s left X Q st h)
     unfolding pred_if open_of pred_opens
-    pred_if_lem P.Wrong q = reads-absent Pred (pred_due d) st (ap (pred_opens (suc d) st) q)
-    pred_if_lem (P.Is h) q = pred_by_lem h q
+    pred_if_lem None q = reads-absent Pred (pred_due d) st (ap (pred_opens (suc d) st) q)
+    pred_if_lem (Some h) q = pred_by_lem h q
 
   -- a head that is well formed opens
   Opens : Opening → Type 0
   Opens o = (ds : List Due) × (u : St) × (o ≡ opens ds u)
 
-  expr-opens-is : (d : ℕ) (st : St) (h : ExprHead) → Opens (expr_opens d st (E.Is h))
+  expr-opens-is : (d : ℕ) (st : St) (h : ExprHead) → Opens (expr_opens d st (Some h))
   unfolding Opens expr_opens
   expr-opens-is d st (Free n e) = (_, _, refl)
   expr-opens-is d st (Bound i e) = (_, _, refl)
@@ -337,7 +327,7 @@ module _ (names : ℕ) (s : List ℕ) where
   expr-opens-is d st (Ascribed e) = (_, _, refl)
   expr-opens-is d st (Explicit e) = (_, _, refl)
 
-  pred_opens-is : (d : ℕ) (st : St) (h : PredHead) → Opens (pred_opens d st (P.Is h))
+  pred_opens-is : (d : ℕ) (st : St) (h : PredHead) → Opens (pred_opens d st (Some h))
   unfolding Opens pred_opens
   pred_opens-is d st (Constant e) = (_, _, refl)
   pred_opens-is d st (Variable e) = (_, _, refl)
@@ -350,15 +340,15 @@ module _ (names : ℕ) (s : List ℕ) where
   pred_opens-is d st (Multiple n e) = (_, _, refl)
   pred_opens-is d st (Application n e) = (_, _, refl)
 
-  expr-deep : (d : ℕ) → max_depth < d → (bare : Bool) (st : St) (h : ExprAt) → expr_head names s bare st.at ≡ h → Reads (expr_due bare d ∷ []) st (expr_deep st h)
+  expr-deep : (d : ℕ) → max_depth < d → (bare : Bool) (st : St) (h : Option ExprHead) → expr_head names s bare st.at ≡ h → Reads (expr_due bare d ∷ []) st (expr_deep st h)
   unfolding expr_deep open_of expr_opens depth_due Limited Opens
-  expr-deep d l bare st E.Wrong q = reads-absent Expr (expr_due bare d) st (ap (expr_opens (suc d) st) q)
-  expr-deep d l bare st (E.Is h) q = let z = expr-opens-is (suc d) st h in reads-passed Expr (expr_due bare d) tt z.0 st z.1 (ap (expr_opens (suc d) st) q ∙ z.2) (too_deep l)
+  expr-deep d l bare st None q = reads-absent Expr (expr_due bare d) st (ap (expr_opens (suc d) st) q)
+  expr-deep d l bare st (Some h) q = let z = expr-opens-is (suc d) st h in reads-passed Expr (expr_due bare d) tt z.0 st z.1 (ap (expr_opens (suc d) st) q ∙ z.2) (too_deep l)
 
-  pred_deep_lem : (d : ℕ) → max_depth < d → (st : St) (h : PredAt) → pred_head s st.at ≡ h → Reads (pred_due d ∷ []) st (pred_deep st h)
+  pred_deep_lem : (d : ℕ) → max_depth < d → (st : St) (h : Option PredHead) → pred_head s st.at ≡ h → Reads (pred_due d ∷ []) st (pred_deep st h)
   unfolding pred_deep open_of pred_opens depth_due Limited Opens
-  pred_deep_lem d l st P.Wrong q = reads-absent Pred (pred_due d) st (ap (pred_opens (suc d) st) q)
-  pred_deep_lem d l st (P.Is h) q = let z = pred_opens-is (suc d) st h in reads-passed Pred (pred_due d) tt z.0 st z.1 (ap (pred_opens (suc d) st) q ∙ z.2) (too_deep l)
+  pred_deep_lem d l st None q = reads-absent Pred (pred_due d) st (ap (pred_opens (suc d) st) q)
+  pred_deep_lem d l st (Some h) q = let z = pred_opens-is (suc d) st h in reads-passed Pred (pred_due d) tt z.0 st z.1 (ap (pred_opens (suc d) st) q ∙ z.2) (too_deep l)
 
   mutual
     unfolding expr_at pred_at
@@ -381,9 +371,9 @@ module _ (names : ℕ) (s : List ℕ) where
   unfolding target_in target_by open_of target_opens depth_due Limited
   target-reads st = go (target_at names s st.at) refl
     where
-      go : (w : Word) → target_at names s st.at ≡ w → Reads (target_due ∷ []) st (target_by st w)
-      go W.Missing q = reads-absent Target target_due st (ap (target_opens st) q)
-      go (W.Of n e) q = reads-own target_due tt [] e st (omega arith) _ (ap (target_opens st) q) (reads_none _ _)
+      go : (w : Option (ℕ × Place)) → target_at names s st.at ≡ w → Reads (target_due ∷ []) st (target_by st w)
+      go None q = reads-absent Target target_due st (ap (target_opens st) q)
+      go (Some (n, e)) q = reads-own target_due tt [] e st (omega arith) _ (ap (target_opens st) q) (reads_none _ _)
 
   pair_reads : (st : St) → Reads (target_due ∷ expr_due false 1 ∷ []) st (pair_in max_depth names s st)
   unfolding pair_in
@@ -425,32 +415,32 @@ module _ (names : ℕ) (s : List ℕ) where
           (λ ds v. reads-last _ v (pred_at max_depth names s v) _ (pred_reads max_depth 1 refl v))))
       go false false false i = reads-absent Formula formula_due st i
 
-  becomes-at : (st : St) (k : ℕ) (p : Place) → open_of names s formula_due st ≡ on_byte absent (few_at s p) (becomes_opens st k) → Reads (formula_due ∷ []) st (becomes_at names s st k p)
-  unfolding becomes_at on_byte
+  becomes-at : (st : St) (k : ℕ) (p : Place) → open_of names s formula_due st ≡ on_part absent (few_at s p) (becomes_opens st k) → Reads (formula_due ∷ []) st (becomes_at names s st k p)
+  unfolding becomes_at on_part
   becomes-at st k p i = go (few_at s p) i
     where
-      go : (b : Byte) → open_of names s formula_due st ≡ on_byte absent b (becomes_opens st k) → Reads (formula_due ∷ []) st (on_byte (bad (Malformed st.at)) b λ n e. becomes_by max_depth names s n e st k)
-      go B.Missing i = reads-absent Formula formula_due st i
-      go (B.Of n e) i = becomes-by n e st k i
+      go : (b : Option (ℕ × Place)) → open_of names s formula_due st ≡ on_part absent b (becomes_opens st k) → Reads (formula_due ∷ []) st (on_part (bad (Malformed st.at)) b λ n e. becomes_by max_depth names s n e st k)
+      go None i = reads-absent Formula formula_due st i
+      go (Some (n, e)) i = becomes-by n e st k i
 
   root_by_lem : (st : St) (k : ℕ) (p : Place) → open_of names s formula_due st ≡ root_opens names s st k p → Reads (formula_due ∷ []) st (root_by names s st k p)
   unfolding root_by root_opens Low Within depth_due Limited
   root_by_lem st k p i = go (ltb k 0x20) (ltb k 0x30) i
     where
       go : (a b : Bool)
-          → open_of names s formula_due st ≡ pick a (opens (expr_due false 0 ∷ []) st) (pick b (opens (pred_due 0 ∷ []) st) (on_byte absent (few_at s p) (becomes_opens st k)))
+          → open_of names s formula_due st ≡ pick a (opens (expr_due false 0 ∷ []) st) (pick b (opens (pred_due 0 ∷ []) st) (on_part absent (few_at s p) (becomes_opens st k)))
           → Reads (formula_due ∷ []) st (pick a (and_then (expr_at levels names s false st) λ x st₁. ok st₁ (expression x)) (pick b (and_then (pred_at levels names s st) λ q st₁. ok st₁ (predicate q)) (becomes_at names s st k p)))
       go true b i = reads_open formula_due _ st st _ i (λ w. (omega arith, w.0, w.1)) (reads-last _ st (expr_at levels names s false st) _ (expr-reads levels 0 refl false st))
       go false true i = reads_open formula_due _ st st _ i (λ w. (omega arith, w.0, w.1)) (reads-last _ st (pred_at levels names s st) _ (pred_reads levels 0 refl st))
       go false false i = becomes-at st k p i
 
   formula-reads : (st : St) → Reads (formula_due ∷ []) st (formula_at names s st)
-  unfolding formula_at on_byte open_of
+  unfolding formula_at on_part open_of
   formula-reads st = go (byte_at s st.at) refl
     where
-      go : (b : Byte) → byte_at s st.at ≡ b → Reads (formula_due ∷ []) st (on_byte (bad (Malformed st.at)) b (root_by names s st))
-      go B.Missing q = reads-absent Formula formula_due st (ap (λ (b : Byte). on_byte absent b (root_opens names s st)) q)
-      go (B.Of k p) q = root_by_lem st k p (ap (λ (b : Byte). on_byte absent b (root_opens names s st)) q)
+      go : (b : Option (ℕ × Place)) → byte_at s st.at ≡ b → Reads (formula_due ∷ []) st (on_part (bad (Malformed st.at)) b (root_by names s st))
+      go None q = reads-absent Formula formula_due st (ap (λ (b : Option (ℕ × Place)). on_part absent b (root_opens names s st)) q)
+      go (Some (k, p)) q = root_by_lem st k p (ap (λ (b : Option (ℕ × Place)). on_part absent b (root_opens names s st)) q)
 
   finish-reads : (a : Formula) (st : St) → Reads (end_due ∷ []) st (finish s st a)
   unfolding finish open_of Low Within depth_due Limited
@@ -470,12 +460,12 @@ module _ (names : ℕ) (s : List ℕ) where
   abbrev pub all_due : List Due
   all_due = formula_due ∷ end_due ∷ []
 
-  by_whole : (f : Fault) (g : Got Formula) → Reads all_due start g → parsed_by g ≡ faulty f → Told start all_due f
+  by_whole : (f : Fault Place) (g : Got Formula) → Reads all_due start g → parsed_by g ≡ faulty f → Told start all_due f
   unfolding Reads Low parsed_by
   by_whole f (ok t a) h e = absurd (let z : ◌≡◌ {A = ℕ} 0 1 = cc in omega arith)
   by_whole f (bad x) h e = let z : x ≡ f = cc in rw (← z) (h (omega arith, omega arith) [])
 
-  pub fault-told : (f : Fault) → parse_of names s ≡ faulty f → Told start all_due f
+  pub fault-told : (f : Fault Place) → parse_of names s ≡ faulty f → Told start all_due f
   unfolding parse_of
   fault-told f e = go (ltb max_bytes (length s)) e
     where
@@ -486,7 +476,7 @@ module _ (names : ℕ) (s : List ℕ) where
   -- ---- one fault alone
 
   -- where a fault is told nothing opens inside the limits
-  told_stops : (d : Due) (t u : St) (f : Fault) (ds : List Due) → Meant d t f → open_of names s d t ≡ opens ds u → Within d u → ⊥
+  told_stops : (d : Due) (t u : St) (f : Fault Place) (ds : List Due) → Meant d t f → open_of names s d t ≡ opens ds u → Within d u → ⊥
   unfolding Meant Within
   told_stops d t u (Malformed p) ds h e w = let z : ◌≡◌ {A = ℕ} 0 1 = let x : absent ≡ opens ds u = sym h.1 ∙ e in cc in omega arith
   told_stops d t u (Beyond p) ds h e w =
@@ -499,7 +489,7 @@ module _ (names : ℕ) (s : List ℕ) where
       no (too_many l) = let z = w.1 in omega arith
       no (too_open l) = let z = w.2 in omega arith
 
-  same-fault : (d : Due) (t : St) (f g : Fault) → Meant d t f → Meant d t g → f ≡ g
+  same-fault : (d : Due) (t : St) (f g : Fault Place) → Meant d t f → Meant d t g → f ≡ g
   unfolding Meant
   same-fault d t (Malformed p) (Malformed q) h k = ap Malformed (sym h.0 ∙ k.0)
   same-fault d t (Malformed p) (Beyond q) h k = absurd (let x : absent ≡ opens k.1.parts k.1.next = sym h.1 ∙ k.1.stands in let z : ◌≡◌ {A = ℕ} 0 1 = cc in omega arith)
@@ -510,60 +500,60 @@ module _ (names : ℕ) (s : List ℕ) where
   again : {u v y : St} {ds es m : List Due} (k : List Due) → opens ds u ≡ opens es v → Goes names s u (ds ++ k) y m → Goes names s v (es ++ k) y m
   again {u} {v} {y} {ds} {es} k o b = let p : ds ≡ es = cc in let q : u ≡ v = cc in rw (← p, ← q) b
 
-  one-fault : {t u v : St} {k m n : List Due} {d e : Due} (f g : Fault) → Goes names s t k u (d ∷ m) → Goes names s t k v (e ∷ n) → Meant d u f → Meant e v g → f ≡ g
+  one-fault : {t u v : St} {k m n : List Due} {d e : Due} (f g : Fault Place) → Goes names s t k u (d ∷ m) → Goes names s t k v (e ∷ n) → Meant d u f → Meant e v g → f ≡ g
   one-fault f g stay stay h i = same-fault _ _ f g h i
   one-fault f g stay (onward e w b) h i = absurd (told_stops _ _ _ f _ h e w)
   one-fault f g (onward e w a) stay h i = absurd (told_stops _ _ _ g _ i e w)
   one-fault f g (onward {k = k} e w a) (onward j x b) h i = one-fault f g a (again k (sym j ∙ e) b) h i
 
-  no_end : {t u v : St} {k m : List Due} {d : Due} (f : Fault) → Goes names s t k u (d ∷ m) → Meant d u f → Goes names s t k v [] → ⊥
+  no_end : {t u v : St} {k m : List Due} {d : Due} (f : Fault Place) → Goes names s t k u (d ∷ m) → Meant d u f → Goes names s t k v [] → ⊥
   no_end f stay h (onward e w b) = told_stops _ _ _ f _ h e w
   no_end f (onward {k = k} e w a) h (onward j x b) = no_end f a h (again k (sym j ∙ e) b)
 
-  to_whole : (f : Fault) → Told start all_due f → (g : Got Formula) → Reads all_due start g → parsed_by g ≡ faulty f
+  to_whole : (f : Fault Place) → Told start all_due f → (g : Got Formula) → Reads all_due start g → parsed_by g ≡ faulty f
   unfolding Reads Low parsed_by
   to_whole f x (ok t a) h = absurd (no_end f x.goes x.meant ((h (omega arith, omega arith)).1 []))
   to_whole f x (bad g) h = let y = h (omega arith, omega arith) [] in ap faulty (one-fault g f y.goes x.goes y.meant x.meant)
 
   -- and no other fault is told
-  pub told-fault : (f : Fault) → length s ≤ max_bytes → Told start all_due f → parse_of names s ≡ faulty f
+  pub told-fault : (f : Fault Place) → length s ≤ max_bytes → Told start all_due f → parse_of names s ≡ faulty f
   unfolding parse_of
   told-fault f l x = rw (le-ltb max_bytes (length s) l) (to_whole f x (whole names s) whole-reads)
 
   -- ---- in the words of `Heads`
 
   opens-stands : (d : Due) → Limited d → (t u : St) (ds : List Due) → open_of names s d t ≡ opens ds u → Stands names s d t.at
-  unfolding Limited open_of Stands target_opens expr_opens pred_opens decl_opens type_opens spelling_opens on_byte
+  unfolding Limited open_of Stands target_opens expr_opens pred_opens decl_opens type_opens spelling_opens on_part
   opens-stands target_due i t u ds e = go (target_at names s t.at) e
     where
-      go : (w : Word) → target_opens t w ≡ opens ds u → (n : ℕ) × (e : Place) × (w ≡ W.Of n e)
-      go W.Missing e = absurd (let z : ◌≡◌ {A = ℕ} 0 1 = cc in omega arith)
-      go (W.Of n q) e = (n, q, refl)
+      go : (w : Option (ℕ × Place)) → target_opens t w ≡ opens ds u → (n : ℕ) × (e : Place) × (w ≡ Some (n, e))
+      go None e = absurd (let z : ◌≡◌ {A = ℕ} 0 1 = cc in omega arith)
+      go (Some (n, q)) e = (n, q, refl)
   opens-stands (expr_due bare d) i t u ds e = go (expr_head names s bare t.at) e
     where
-      go : (w : ExprAt) → expr_opens (suc d) t w ≡ opens ds u → (h : ExprHead) × (w ≡ E.Is h)
-      go E.Wrong e = absurd (let z : ◌≡◌ {A = ℕ} 0 1 = cc in omega arith)
-      go (E.Is h) e = (h, refl)
+      go : (w : Option ExprHead) → expr_opens (suc d) t w ≡ opens ds u → (h : ExprHead) × (w ≡ Some h)
+      go None e = absurd (let z : ◌≡◌ {A = ℕ} 0 1 = cc in omega arith)
+      go (Some h) e = (h, refl)
   opens-stands (pred_due d) i t u ds e = go (pred_head s t.at) e
     where
-      go : (w : PredAt) → pred_opens (suc d) t w ≡ opens ds u → (h : PredHead) × (w ≡ P.Is h)
-      go P.Wrong e = absurd (let z : ◌≡◌ {A = ℕ} 0 1 = cc in omega arith)
-      go (P.Is h) e = (h, refl)
+      go : (w : Option PredHead) → pred_opens (suc d) t w ≡ opens ds u → (h : PredHead) × (w ≡ Some h)
+      go None e = absurd (let z : ◌≡◌ {A = ℕ} 0 1 = cc in omega arith)
+      go (Some h) e = (h, refl)
   opens-stands (decl_due d) i t u ds e = go (decl_head s t.at) e
     where
-      go : (w : DeclAt) → decl_opens (suc d) t w ≡ opens ds u → (h : DeclHead) × (w ≡ D.Is h)
-      go D.Wrong e = absurd (let z : ◌≡◌ {A = ℕ} 0 1 = cc in omega arith)
-      go (D.Is h) e = (h, refl)
+      go : (w : Option DeclHead) → decl_opens (suc d) t w ≡ opens ds u → (h : DeclHead) × (w ≡ Some h)
+      go None e = absurd (let z : ◌≡◌ {A = ℕ} 0 1 = cc in omega arith)
+      go (Some h) e = (h, refl)
   opens-stands (type_due d) i t u ds e = λ x. let y : absent ≡ opens ds u = sym (ap (type_opens (suc d) t) x) ∙ e in let z : ◌≡◌ {A = ℕ} 0 1 = cc in omega arith
   opens-stands (spelling_due d) i t u ds e = go (byte_at s t.at) e
     where
-      kind : (k : ℕ) (q : Place) → ((r : Place) → B.Of k q ≢ B.Of 0x4F r) → (c : Bool) → eqb k 0x4F ≡ c → pick c (opens [] (moved q t)) (type_opens (suc d) t (type_head names s t.at)) ≡ opens ds u → type_head names s t.at ≢ wrong
-      kind k q n true j e = absurd (n q (ap (λ (x : ℕ). B.Of x q) (eqb-true k 0x4F j)))
+      kind : (k : ℕ) (q : Place) → ((r : Place) → ◌≢◌ {A = Option (ℕ × Place)} (Some (k, q)) (Some (0x4F, r))) → (c : Bool) → eqb k 0x4F ≡ c → pick c (opens [] (moved q t)) (type_opens (suc d) t (type_head names s t.at)) ≡ opens ds u → type_head names s t.at ≢ wrong
+      kind k q n true j e = absurd (n q (ap (λ (x : ℕ). Some (x, q)) (eqb-true k 0x4F j)))
       kind k q n false j e = λ x. let y : absent ≡ opens ds u = sym (ap (type_opens (suc d) t) x) ∙ e in let z : ◌≡◌ {A = ℕ} 0 1 = cc in omega arith
 
-      go : (b : Byte) → on_byte (type_opens (suc d) t (type_head names s t.at)) b (spelling_opens (suc d) t (type_head names s t.at)) ≡ opens ds u → ((r : Place) → b ≢ B.Of 0x4F r) → type_head names s t.at ≢ wrong
-      go B.Missing e n = λ x. let y : absent ≡ opens ds u = sym (ap (type_opens (suc d) t) x) ∙ e in let z : ◌≡◌ {A = ℕ} 0 1 = cc in omega arith
-      go (B.Of k q) e n = kind k q n (eqb k 0x4F) refl e
+      go : (b : Option (ℕ × Place)) → on_part (type_opens (suc d) t (type_head names s t.at)) b (spelling_opens (suc d) t (type_head names s t.at)) ≡ opens ds u → ((r : Place) → b ≢ Some (0x4F, r)) → type_head names s t.at ≢ wrong
+      go None e n = λ x. let y : absent ≡ opens ds u = sym (ap (type_opens (suc d) t) x) ∙ e in let z : ◌≡◌ {A = ℕ} 0 1 = cc in omega arith
+      go (Some (k, q)) e n = kind k q n (eqb k 0x4F) refl e
   opens-stands formula_due i t u ds e = absurd i
   opens-stands (close_due n) i t u ds e = absurd i
   opens-stands end_due i t u ds e = absurd i
@@ -586,49 +576,49 @@ module _ (names : ℕ) (s : List ℕ) where
       go false false false x y z e = let f = eqb-false k 0x30 x in let g = eqb-false k 0x31 y in let h = eqb-false k 0x32 z in omega arith
 
   no_formula : (t : St) (k : ℕ) (q : Place) → root_opens names s t k q ≡ absent → (0x30 ≤ k) × (Assigns names s k q → ⊥)
-  unfolding root_opens Assigns on_byte
+  unfolding root_opens Assigns on_part
   no_formula t k q e = go (ltb k 0x20) (ltb k 0x30) refl e
     where
-      go : (a b : Bool) → ltb k 0x30 ≡ b → pick a (opens (expr_due false 0 ∷ []) t) (pick b (opens (pred_due 0 ∷ []) t) (on_byte absent (few_at s q) (becomes_opens t k))) ≡ absent → (0x30 ≤ k) × (Assigns names s k q → ⊥)
+      go : (a b : Bool) → ltb k 0x30 ≡ b → pick a (opens (expr_due false 0 ∷ []) t) (pick b (opens (pred_due 0 ∷ []) t) (on_part absent (few_at s q) (becomes_opens t k))) ≡ absent → (0x30 ≤ k) × (Assigns names s k q → ⊥)
       go true b j e = absurd (let z : ◌≡◌ {A = ℕ} 0 1 = cc in omega arith)
       go false true j e = absurd (let z : ◌≡◌ {A = ℕ} 0 1 = cc in omega arith)
-      go false false j e = (ltb-false k 0x30 j, λ x. no_becomes t k x.0 x.1 (sym (ap (λ (b : Byte). on_byte absent b (becomes_opens t k)) x.2) ∙ e) x.3 x.4)
+      go false false j e = (ltb-false k 0x30 j, λ x. no_becomes t k x.0 x.1 (sym (ap (λ (b : Option (ℕ × Place)). on_part absent b (becomes_opens t k)) x.2) ∙ e) x.3 x.4)
 
   absent-lacks : (d : Due) (t : St) → open_of names s d t ≡ absent → Lacks names s d t.at
-  unfolding open_of Lacks Assigns Opens target_opens expr_opens pred_opens decl_opens type_opens spelling_opens root_opens becomes_opens on_byte
+  unfolding open_of Lacks Assigns Opens target_opens expr_opens pred_opens decl_opens type_opens spelling_opens root_opens becomes_opens on_part
   absent-lacks target_due t e = go (target_at names s t.at) e
     where
-      go : (w : Word) → target_opens t w ≡ absent → w ≡ W.Missing
-      go W.Missing e = refl
-      go (W.Of n q) e = absurd (let z : ◌≡◌ {A = ℕ} 0 1 = cc in omega arith)
+      go : (w : Option (ℕ × Place)) → target_opens t w ≡ absent → w ≡ None
+      go None e = refl
+      go (Some (n, q)) e = absurd (let z : ◌≡◌ {A = ℕ} 0 1 = cc in omega arith)
   absent-lacks (expr_due bare d) t e = go (expr_head names s bare t.at) e
     where
-      go : (w : ExprAt) → expr_opens (suc d) t w ≡ absent → w ≡ E.Wrong
-      go E.Wrong e = refl
-      go (E.Is h) e = absurd (let y = expr-opens-is (suc d) t h in let x : opens y.0 y.1 ≡ absent = sym y.2 ∙ e in let z : ◌≡◌ {A = ℕ} 0 1 = cc in omega arith)
+      go : (w : Option ExprHead) → expr_opens (suc d) t w ≡ absent → w ≡ None
+      go None e = refl
+      go (Some h) e = absurd (let y = expr-opens-is (suc d) t h in let x : opens y.0 y.1 ≡ absent = sym y.2 ∙ e in let z : ◌≡◌ {A = ℕ} 0 1 = cc in omega arith)
   absent-lacks (pred_due d) t e = go (pred_head s t.at) e
     where
-      go : (w : PredAt) → pred_opens (suc d) t w ≡ absent → w ≡ P.Wrong
-      go P.Wrong e = refl
-      go (P.Is h) e = absurd (let y = pred_opens-is (suc d) t h in let x : opens y.0 y.1 ≡ absent = sym y.2 ∙ e in let z : ◌≡◌ {A = ℕ} 0 1 = cc in omega arith)
+      go : (w : Option PredHead) → pred_opens (suc d) t w ≡ absent → w ≡ None
+      go None e = refl
+      go (Some h) e = absurd (let y = pred_opens-is (suc d) t h in let x : opens y.0 y.1 ≡ absent = sym y.2 ∙ e in let z : ◌≡◌ {A = ℕ} 0 1 = cc in omega arith)
   absent-lacks (decl_due d) t e = go (decl_head s t.at) e
     where
-      go : (w : DeclAt) → decl_opens (suc d) t w ≡ absent → w ≡ D.Wrong
-      go D.Wrong e = refl
-      go (D.Is (Plain q)) e = absurd (let z : ◌≡◌ {A = ℕ} 0 1 = cc in omega arith)
-      go (D.Is (Typed q)) e = absurd (let z : ◌≡◌ {A = ℕ} 0 1 = cc in omega arith)
-      go (D.Is (Annotated q)) e = absurd (let z : ◌≡◌ {A = ℕ} 0 1 = cc in omega arith)
+      go : (w : Option DeclHead) → decl_opens (suc d) t w ≡ absent → w ≡ None
+      go None e = refl
+      go (Some (Plain q)) e = absurd (let z : ◌≡◌ {A = ℕ} 0 1 = cc in omega arith)
+      go (Some (Typed q)) e = absurd (let z : ◌≡◌ {A = ℕ} 0 1 = cc in omega arith)
+      go (Some (Annotated q)) e = absurd (let z : ◌≡◌ {A = ℕ} 0 1 = cc in omega arith)
   absent-lacks (type_due d) t e = no_type-head (suc d) t (type_head names s t.at) e
   absent-lacks (spelling_due d) t e = go (byte_at s t.at) e
     where
-      kind : (k : ℕ) (q : Place) (c : Bool) → eqb k 0x4F ≡ c → pick c (opens [] (moved q t)) (type_opens (suc d) t (type_head names s t.at)) ≡ absent → (type_head names s t.at ≡ wrong) × ((r : Place) → B.Of k q ≢ B.Of 0x4F r)
+      kind : (k : ℕ) (q : Place) (c : Bool) → eqb k 0x4F ≡ c → pick c (opens [] (moved q t)) (type_opens (suc d) t (type_head names s t.at)) ≡ absent → (type_head names s t.at ≡ wrong) × ((r : Place) → ◌≢◌ {A = Option (ℕ × Place)} (Some (k, q)) (Some (0x4F, r)))
       kind k q true j e = absurd (let z : ◌≡◌ {A = ℕ} 0 1 = cc in omega arith)
-      kind k q false j e = (no_type-head (suc d) t (type_head names s t.at) e, λ r x. eqb-false k 0x4F j (let y : k ≡ 0x4F = cc in y))
+      kind k q false j e = (no_type-head (suc d) t (type_head names s t.at) e, λ r x. eqb-false k 0x4F j (same_part k 0x4F q r x).0)
 
-      go : (b : Byte) → on_byte (type_opens (suc d) t (type_head names s t.at)) b (spelling_opens (suc d) t (type_head names s t.at)) ≡ absent → (type_head names s t.at ≡ wrong) × ((r : Place) → b ≢ B.Of 0x4F r)
-      go B.Missing e = (no_type-head (suc d) t (type_head names s t.at) e, λ r x. let z : ◌≡◌ {A = ℕ} 0 1 = cc in omega arith)
-      go (B.Of k q) e = kind k q (eqb k 0x4F) refl e
-  absent-lacks formula_due t e = λ k q j. no_formula t k q (sym (ap (λ (b : Byte). on_byte absent b (root_opens names s t)) j) ∙ e)
+      go : (b : Option (ℕ × Place)) → on_part (type_opens (suc d) t (type_head names s t.at)) b (spelling_opens (suc d) t (type_head names s t.at)) ≡ absent → (type_head names s t.at ≡ wrong) × ((r : Place) → b ≢ Some (0x4F, r))
+      go None e = (no_type-head (suc d) t (type_head names s t.at) e, λ r x. let z : ◌≡◌ {A = ℕ} 0 1 = cc in omega arith)
+      go (Some (k, q)) e = kind k q (eqb k 0x4F) refl e
+  absent-lacks formula_due t e = λ k q j. no_formula t k q (sym (ap (λ (b : Option (ℕ × Place)). on_part absent b (root_opens names s t)) j) ∙ e)
   absent-lacks (close_due n) t e = absurd (let z : ◌≡◌ {A = ℕ} 0 1 = cc in omega arith)
   absent-lacks end_due t e = go (ltb t.at.0 (length s)) refl e
     where

@@ -2,15 +2,16 @@
 -- and the stream itself spells no formula inside the limits (`faulty-none`). So the fault is no earlier than its place.
 -- Where no name is known no assignment can be completed, so a name is asked for where the first byte is 0x30 or above.
 -- Theorems that rest on what must-fail edits change stand in proofs/FaultPlace.antt.
+use Rattle.types.specs.declared.Place.{Place}
 use Rattle.std.specs.Prelude.{ℕ, ◌≤◌, List, ◌++◌, length, take}
 use Rattle.std.proofs.Math.Path.{◌≡◌}
-use Rattle.formula.specs.declared.Fault.{Fault}
-use Rattle.formula.specs.declared.Fault.TheVariants.{Malformed, Beyond}
+use Rattle.types.specs.declared.Fault.{Fault}
+use Rattle.types.specs.declared.Fault.TheVariants.{Malformed, Beyond}
 use Rattle.formula.specs.Tree.{Formula}
 use Rattle.formula.specs.Spell.{spell_formula}
 use Rattle.formula_laws.specs.Shape.{ShapeFormula}
 
-unfoldable pub fault_place : Fault → ℕ
+unfoldable pub fault_place : Fault Place → ℕ
 fault_place (Malformed p) = p.0
 fault_place (Beyond p) = p.0
 

@@ -14,7 +14,7 @@ use Rattle.types.specs.Ty.{Ty}
 use Rattle.types.specs.Faults as TF
 use Rattle.types.specs.Faults.{Way, Leads}
 use Rattle.formula.specs.declared.St.{St}
-use Rattle.formula.specs.declared.Fault.TheVariants.{Malformed, Beyond}
+use Rattle.types.specs.declared.Fault.TheVariants.{Malformed, Beyond}
 use Rattle.formula.specs.Tree.{Spelling, Decl, Expr, Exprs, Pred, Preds, Target, Formula, decls, exprs, preds, targets, pairs}
 use Rattle.formula.specs.Spell.{spell_spelling, spell_decl, spell_decls, spell, spell_all, spell_pred, spell_preds, spell_target, spell_targets, spell_pairs, spell_formula}
 use Rattle.formula.specs.Reader.{Got, ok, bad}

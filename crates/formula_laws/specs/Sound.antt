@@ -3,7 +3,7 @@
 use Prim.Native.Nat.{ℕ, zero, suc, ◌+◌, ◌≤◌, ◌<◌}
 use native.Mathlib.Omega.{arith}
 use Rattle.std.proofs.Math.Path.{◌≡◌, refl, ap}
-use Rattle.std.specs.Prelude.{Bool, get_or}
+use Rattle.std.specs.Prelude.{Bool, get_or, Option, Some, None, Ok, Err}
 use Rattle.std.proofs.Math.Bool.{true, false}
 use mathlib.Core.List.{List, [], ◌∷◌, ◌++◌}
 use Rattle.std.proofs.Math.Dec.{ltb}
@@ -11,16 +11,12 @@ use borrow.Author.Tests.{ltb-true}
 use Rattle.types.specs.declared.Place.{Place}
 use Rattle.types.specs.Ty as T
 use Rattle.types.specs.Ty.{Ty}
-use Rattle.heads.specs.declared.Word.{Word}
-use Rattle.heads.specs.declared.Word.TheVariants as W
 use Rattle.formula.specs.declared.St.{St}
-use Rattle.formula.specs.declared.Fault.TheVariants.{Beyond}
-use Rattle.formula.specs.declared.Out.{Out}
-use Rattle.formula.specs.declared.Out.TheVariants.{Next, Stop}
+use Rattle.types.specs.declared.Fault.TheVariants.{Beyond}
 use Rattle.formula.specs.Tree.{Spelling, Decl, Expr, Exprs, Pred, Preds, Target, Formula, decls, exprs, preds, targets, pairs, slots, slots_all, slots_pred, slots_preds, slots_pairs, slots_of}
 use Rattle.formula.specs.Spell.{spell_spelling, spell_decl, spell_decls, spell, spell_all, spell_pred, spell_preds, spell_target, spell_targets, spell_pairs, spell_formula, PlacedDecl, PlacedDecls, Placed, Placed_all, PlacedPred, PlacedPreds, PlacedTargets, PlacedPairs, PlacedFormula}
 use Rattle.heads.specs.Heads.{pick, target_at}
-use Rattle.formula.specs.Reader.{Got, ok, bad, and_then, on_next, many, moved, own_of, declare_of}
+use Rattle.formula.specs.Reader.{Got, ok, bad, and_then, on_next, many, moved, own_of, declare_of, Out}
 use Rattle.formula.specs.Parse.{target_by, target_in, targets_at}
 use Rattle.types.specs.Limits.{max_slots, max_opened}
 use Rattle.formula_laws.specs.Fits.{is_bare, FitsTy, FitsSpelling, FitsDecl, FitsDecls, Fits, FitsAll, FitsPred, FitsPreds, FitsTargets, FitsPairs, FitsRoot}
@@ -36,10 +32,10 @@ unfolding Holds and_then
 holds_then R S (ok t a) k h f = f a t h
 holds_then R S (bad x) k h f = tt
 
-pub holds-next : {B : Type 0} (S : St → B → Type 0) (o : Out) (k : St → Got B) → ((t : St) → o ≡ Next t → Holds S (k t)) → Holds S (on_next o k)
+pub holds-next : {B : Type 0} (S : St → B → Type 0) (o : Out) (k : St → Got B) → ((t : St) → o ≡ Ok t → Holds S (k t)) → Holds S (on_next o k)
 unfolding Holds on_next
-holds-next S (Next t) k f = f t refl
-holds-next S (Stop x) k f = tt
+holds-next S (Ok t) k f = f t refl
+holds-next S (Err x) k f = tt
 
 pub holds-many : {A C : Type 0} (nil : C) (cons : A → C → C) (m : St → Got A) (R : St → A → St → Type 0) (S : ℕ → St → C → St → Type 0)
     → ((st : St) → S 0 st nil st) → ((n : ℕ) (st t u : St) (a : A) (b : C) → R st a t → S n t b u → S (suc n) st (cons a b) u)
@@ -77,11 +73,11 @@ module _ (s : List ℕ) where
   unfolding moved
   step-moved st x e h = record { stand = h; owns = omega arith; limit = λ l. l; opens = omega arith }
 
-  pub step-own : (e : Place) (st t : St) (x : List ℕ) → own_of e st ≡ Next t → Stand s st.at.0 x e.0 → Step s st x 1 0 t
+  pub step-own : (e : Place) (st t : St) (x : List ℕ) → own_of e st ≡ Ok t → Stand s st.at.0 x e.0 → Step s st x 1 0 t
   unfolding own_of
   step-own e st t x h y = go (ltb st.slots max_slots) refl h
     where
-      go : (c : Bool) → ltb st.slots max_slots ≡ c → pick c (Next (record { at = e; slots = st.slots + 1; opened = st.opened })) (Stop (Beyond st.at)) ≡ Next t → Step s st x 1 0 t
+      go : (c : Bool) → ltb st.slots max_slots ≡ c → pick c (Ok (record { at = e; slots = st.slots + 1; opened = st.opened })) (Err (Beyond st.at)) ≡ Ok t → Step s st x 1 0 t
       go true k z =
           let w = ltb-true st.slots max_slots k in
           let i : record { at = e; slots = st.slots + 1; opened = st.opened } ≡ t = cc in
@@ -89,11 +85,11 @@ module _ (s : List ℕ) where
       go false k z = let i : ◌≡◌ {A = ℕ} 0 1 = cc in absurd (omega arith)
 
   -- a declaration: one slot, and one more open, at most as many as there may be
-  pub step-declare : (e : Place) (st t : St) (x : List ℕ) → declare_of e st ≡ Next t → Stand s st.at.0 x e.0 → Step s st x 1 1 t × (t.opened ≤ max_opened)
+  pub step-declare : (e : Place) (st t : St) (x : List ℕ) → declare_of e st ≡ Ok t → Stand s st.at.0 x e.0 → Step s st x 1 1 t × (t.opened ≤ max_opened)
   unfolding declare_of
   step-declare e st t x h y = go (ltb st.opened max_opened) refl (ltb st.slots max_slots) refl h
     where
-      go : (b : Bool) → ltb st.opened max_opened ≡ b → (c : Bool) → ltb st.slots max_slots ≡ c → pick b (pick c (Next (record { at = e; slots = st.slots + 1; opened = st.opened + 1 })) (Stop (Beyond st.at))) (Stop (Beyond st.at)) ≡ Next t → Step s st x 1 1 t × (t.opened ≤ max_opened)
+      go : (b : Bool) → ltb st.opened max_opened ≡ b → (c : Bool) → ltb st.slots max_slots ≡ c → pick b (pick c (Ok (record { at = e; slots = st.slots + 1; opened = st.opened + 1 })) (Err (Beyond st.at))) (Err (Beyond st.at)) ≡ Ok t → Step s st x 1 1 t × (t.opened ≤ max_opened)
       go true j true k z =
           let v = ltb-true st.opened max_opened j in
           let w = ltb-true st.slots max_slots k in
@@ -156,10 +152,10 @@ module _ (names : ℕ) (s : List ℕ) (bytes : (i : ℕ) → get_or s i 0 < 256)
     pub placed : a.place ≡ st.at.0
     pub fits : a.name < names
 
-  target-by : (st : St) (w : Word) → TargetSays names s st.at.0 w → Holds (λ t a. TargetRead st a t) (target_by st w)
+  target-by : (st : St) (w : Option (ℕ × Place)) → TargetSays names s st.at.0 w → Holds (λ t a. TargetRead st a t) (target_by st w)
   unfolding target_by TargetSays Holds spell_target
-  target-by st W.Missing x = tt
-  target-by st (W.Of n e) x = holds-next (λ t a. TargetRead st a t) (own_of e st) _ (λ t o. record { step = step-own s e st t _ o x.1; placed = refl; fits = x.0 })
+  target-by st None x = tt
+  target-by st (Some (n, e)) x = holds-next (λ t a. TargetRead st a t) (own_of e st) _ (λ t o. record { step = step-own s e st t _ o x.1; placed = refl; fits = x.0 })
 
   pub sound-target : (st : St) → Holds (λ t a. TargetRead st a t) (target_in names s st)
   unfolding target_in

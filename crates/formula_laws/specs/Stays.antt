@@ -4,7 +4,7 @@ use Prim.Native.Nat.{ℕ, zero, suc, ◌+◌, ◌≤◌, ◌<◌}
 use native.Mathlib.Omega.{arith}
 use Rattle.std.proofs.Math.Path.{◌≡◌, refl, sym, ap}
 use Rattle.std.proofs.Common.{◌∙◌, drop-cons, lt-ltb, le-ltb}
-use Rattle.std.specs.Prelude.{Bool, length, get_or, drop, leb, ltb, eqb}
+use Rattle.std.specs.Prelude.{Bool, length, get_or, drop, leb, ltb, eqb, Option, Some, None, Ok, Err}
 use Rattle.std.proofs.Math.Bool.{true, false}
 use mathlib.Core.List.{List, [], ◌∷◌}
 use Rattle.std.proofs.Math.Decide.{dec_le}
@@ -14,36 +14,25 @@ use Rattle.types.specs.Ty as T
 use Rattle.types.specs.Ty.{Ty}
 use Rattle.types.specs.Record.{TypeAt, got, malformed, deep, type_at}
 use Rattle.types.specs.Spellings.{bytes-at, bytes_drop, Begins, head-begins}
-use Rattle.heads.specs.declared.Byte.{Byte}
-use Rattle.heads.specs.declared.Byte.TheVariants as B
-use Rattle.heads.specs.declared.Word.{Word}
-use Rattle.heads.specs.declared.Word.TheVariants as W
 use Rattle.heads.specs.declared.ExprHead.{ExprHead}
 use Rattle.heads.specs.declared.ExprHead.TheVariants.{Free, Bound, Literal, Atomic, Extension, Truth, Binary, Associative, Unary, Quantified, Ascribed, Explicit}
 use Rattle.heads.specs.declared.PredHead.{PredHead}
 use Rattle.heads.specs.declared.PredHead.TheVariants.{Constant, Variable, Relational, Connective, Junction, Negation, Quantification, Simple, Multiple, Application}
 use Rattle.heads.specs.declared.DeclHead.{DeclHead}
 use Rattle.heads.specs.declared.DeclHead.TheVariants.{Plain, Typed, Annotated}
-use Rattle.heads.specs.declared.ExprAt.{ExprAt}
-use Rattle.heads.specs.declared.ExprAt.TheVariants as E
-use Rattle.heads.specs.declared.PredAt.{PredAt}
-use Rattle.heads.specs.declared.PredAt.TheVariants as P
-use Rattle.heads.specs.declared.DeclAt.{DeclAt}
-use Rattle.heads.specs.declared.DeclAt.TheVariants as D
 use Rattle.formula.specs.declared.St.{St}
-use Rattle.formula.specs.declared.Fault.{Fault}
-use Rattle.formula.specs.declared.Fault.TheVariants.{Malformed, Beyond}
-use Rattle.formula.specs.declared.Out.TheVariants.{Next, Stop}
+use Rattle.types.specs.declared.Fault.{Fault}
+use Rattle.types.specs.declared.Fault.TheVariants.{Malformed, Beyond}
 use Rattle.formula.specs.Tree.{Spelling, spells, no_type, Decl, Expr, none, more, Pred, end, also, Target, Formula, expression, predicate, becomes, becomes_in, becomes_such}
-use Rattle.heads.specs.Reads.{byte_in}
-use Rattle.heads.specs.Heads.{pick, place, byte_of, byte_at, on_byte, on_word, word_at, name_at, op_at, count_at, few_at, expr_body, expr_head, pred_body, pred_head, decl_head, target_at}
+use Rattle.heads.specs.Reads.{byte_in, same_part}
+use Rattle.heads.specs.Heads.{pick, place, byte_of, byte_at, on_part, word_at, name_at, op_at, count_at, few_at, expr_body, expr_head, pred_body, pred_head, decl_head, target_at}
 use Rattle.formula.specs.Reader.{Got, ok, bad, and_then, on_next, many, moved, own_of, declare_of, closed, closing, type_got, type_in, read_no_type, spelled_in, spelling_in}
 use Rattle.formula.specs.Parse.{decl_by, decl_if, decl_at, decls_at, expr_by, pred_by, expr_if, pred_if, expr_deep, pred_deep, expr_at, pred_at, target_by, target_in, pair_in, targets_at, pairs_at, becomes_by, becomes_at, root_by, start, formula_at, finish, whole, faulty, parsed_by, parse_of}
 use Rattle.types.specs.Limits.{max_bytes, max_depth, max_slots, max_opened, levels}
 use Rattle.formula_laws.specs.Says.{ExprSays, PredSays, DeclSays, TargetSays, expr-says, pred_says, decl_says, target-says}
 
 -- where a fault is
-unfoldable pub at_fault : Fault → ℕ
+unfoldable pub at_fault : Fault Place → ℕ
 at_fault (Malformed p) = p.0
 at_fault (Beyond p) = p.0
 
@@ -73,7 +62,7 @@ module _ {A : Type 0} (m : ℕ) where
   rep_closing n p (ok t a) g' r = (r.0, λ l. rw (r.1 l))
   rep_closing n p (bad f) g' r = (r.0, λ l. rw (r.1 l))
 
-rep_bad : (A : Type 0) (m p : ℕ) (f : Fault) → p ≤ at_fault f → Rep {A = A} m p (bad f) (bad f)
+rep_bad : (A : Type 0) (m p : ℕ) (f : Fault Place) → p ≤ at_fault f → Rep {A = A} m p (bad f) (bad f)
 unfolding Rep
 rep_bad A m p f h = (h, λ l. refl)
 
@@ -94,7 +83,7 @@ rep_own : (B : Type 0) (m : ℕ) (e : Place) (st : St) (k k' : St → Got B) →
 unfolding own_of on_next at_fault
 rep_own B m e st k k' h c = go (ltb st.slots max_slots)
   where
-    go : (b : Bool) → Rep m st.at.0 (on_next (pick b (Next (record { at = e; slots = st.slots + 1; opened = st.opened })) (Stop (Beyond st.at))) k) (on_next (pick b (Next (record { at = e; slots = st.slots + 1; opened = st.opened })) (Stop (Beyond st.at))) k')
+    go : (b : Bool) → Rep m st.at.0 (on_next (pick b (Ok (record { at = e; slots = st.slots + 1; opened = st.opened })) (Err (Beyond st.at))) k) (on_next (pick b (Ok (record { at = e; slots = st.slots + 1; opened = st.opened })) (Err (Beyond st.at))) k')
     go true = rep_low m st.at.0 e.0 _ _ h (c (record { at = e; slots = st.slots + 1; opened = st.opened }))
     go false = rep_bad B m st.at.0 (Beyond st.at) (omega arith)
 
@@ -102,10 +91,10 @@ rep_declare : (B : Type 0) (m : ℕ) (e : Place) (st : St) (k k' : St → Got B)
 unfolding declare_of on_next at_fault
 rep_declare B m e st k k' h c = go (ltb st.opened max_opened) (ltb st.slots max_slots)
   where
-    stop : Rep m st.at.0 (on_next (Stop (Beyond st.at)) k) (on_next (Stop (Beyond st.at)) k')
+    stop : Rep m st.at.0 (on_next (Err (Beyond st.at)) k) (on_next (Err (Beyond st.at)) k')
     stop = rep_bad B m st.at.0 (Beyond st.at) (omega arith)
 
-    go : (b d : Bool) → Rep m st.at.0 (on_next (pick b (pick d (Next (record { at = e; slots = st.slots + 1; opened = st.opened + 1 })) (Stop (Beyond st.at))) (Stop (Beyond st.at))) k) (on_next (pick b (pick d (Next (record { at = e; slots = st.slots + 1; opened = st.opened + 1 })) (Stop (Beyond st.at))) (Stop (Beyond st.at))) k')
+    go : (b d : Bool) → Rep m st.at.0 (on_next (pick b (pick d (Ok (record { at = e; slots = st.slots + 1; opened = st.opened + 1 })) (Err (Beyond st.at))) (Err (Beyond st.at))) k) (on_next (pick b (pick d (Ok (record { at = e; slots = st.slots + 1; opened = st.opened + 1 })) (Err (Beyond st.at))) (Err (Beyond st.at))) k')
     go true true = rep_low m st.at.0 e.0 _ _ h (c (record { at = e; slots = st.slots + 1; opened = st.opened + 1 }))
     go true false = stop
     go false true = stop
@@ -119,62 +108,59 @@ rep_many m nil cons x x' h (suc n) st =
 
 -- ---- the same bytes, the same heads
 
-byte_ends : (s : List ℕ) (p : Place) (b : ℕ) (e : Place) → byte_at s p ≡ B.Of b e → p.0 ≤ e.0
+byte_ends : (s : List ℕ) (p : Place) (b : ℕ) (e : Place) → byte_at s p ≡ Some (b, e) → p.0 ≤ e.0
 unfolding byte_at byte_of
 byte_ends s p b e = go (drop p.0 s)
   where
-    go : (l : List ℕ) → byte_of p.0 l ≡ B.Of b e → p.0 ≤ e.0
+    go : (l : List ℕ) → byte_of p.0 l ≡ Some (b, e) → p.0 ≤ e.0
     go [] h = absurd (let z : ◌≡◌ {A = ℕ} 0 1 = cc in omega arith)
-    go (x ∷ l) h = let z : place (p.0 + 1) ≡ e = cc in let y : p.0 + 1 ≡ e.0 = ap (λ (q : Place). q.0) z in omega arith
+    go (x ∷ l) h = let y = ap (λ (q : Place). q.0) (same_part x b (place (p.0 + 1)) e h).1 in omega arith
 
-byte_most : (s : List ℕ) (p : Place) (b : ℕ) (e : Place) → byte_at s p ≡ B.Of b e → e.0 ≤ p.0 + 1
+byte_most : (s : List ℕ) (p : Place) (b : ℕ) (e : Place) → byte_at s p ≡ Some (b, e) → e.0 ≤ p.0 + 1
 unfolding byte_at byte_of
 byte_most s p b e = go (drop p.0 s)
   where
-    go : (l : List ℕ) → byte_of p.0 l ≡ B.Of b e → e.0 ≤ p.0 + 1
+    go : (l : List ℕ) → byte_of p.0 l ≡ Some (b, e) → e.0 ≤ p.0 + 1
     go [] h = absurd (let z : ◌≡◌ {A = ℕ} 0 1 = cc in omega arith)
-    go (x ∷ l) h = let z : place (p.0 + 1) ≡ e = cc in let y : p.0 + 1 ≡ e.0 = ap (λ (q : Place). q.0) z in omega arith
+    go (x ∷ l) h = let y = ap (λ (q : Place). q.0) (same_part x b (place (p.0 + 1)) e h).1 in omega arith
 
-word_cong : {A : Type 0} (z : A) (f : ℕ → Place → A) (w v : Word) → w ≡ v → on_word z w f ≡ on_word z v f
-word_cong z f w v e = rw e
-
-byte_cong : {A : Type 0} (z : A) (f : ℕ → Place → A) (w v : Byte) → w ≡ v → on_byte z w f ≡ on_byte z v f
-byte_cong z f w v e = rw e
+part_cong : {A : Type 0} (z : A) (f : ℕ → Place → A) (w v : Option (ℕ × Place)) → w ≡ v → on_part z w f ≡ on_part z v f
+part_cong z f w v e = rw e
 
 module _ (names : ℕ) (s s' : List ℕ) (m : ℕ) (short : m ≤ length s) (short' : m ≤ length s') (agree : (i : ℕ) → i < m → get_or s i 0 ≡ get_or s' i 0) (bytes : (i : ℕ) → get_or s i 0 < 256) where
-  pub on_byte_same : {A : Type 0} (z : A) (p : Place) (f f' : ℕ → Place → A) → p.0 < m → ((b : ℕ) (e : Place) → e.0 ≡ p.0 + 1 → f b e ≡ f' b e) → on_byte z (byte_at s p) f ≡ on_byte z (byte_at s' p) f'
-  unfolding on_byte
+  pub on_byte_same : {A : Type 0} (z : A) (p : Place) (f f' : ℕ → Place → A) → p.0 < m → ((b : ℕ) (e : Place) → e.0 ≡ p.0 + 1 → f b e ≡ f' b e) → on_part z (byte_at s p) f ≡ on_part z (byte_at s' p) f'
+  unfolding on_part
   on_byte_same z p f f' h c =
       rw (← byte_in s p (omega arith), ← byte_in s' p (omega arith))
       (c (get_or s p.0 0) (place (p.0 + 1)) refl ∙ ap (λ (b : ℕ). f' b (place (p.0 + 1))) (agree p.0 h))
 
   word_same : (p : Place) → p.0 + 1 < m → word_at s p ≡ word_at s' p
   unfolding word_at
-  word_same p h = on_byte_same W.Missing p _ _ (omega arith) (λ lo q e. on_byte_same W.Missing q _ _ (omega arith) (λ hi r i. refl))
+  word_same p h = on_byte_same None p _ _ (omega arith) (λ lo q e. on_byte_same None q _ _ (omega arith) (λ hi r i. refl))
 
   pub name-same : (p : Place) → p.0 + 1 < m → name_at names s p ≡ name_at names s' p
   unfolding name_at
-  name-same p h = ap (λ (w : Word). on_word W.Missing w λ n e. pick (ltb n names) (W.Of n e) W.Missing) (word_same p h)
+  name-same p h = ap (λ (w : Option (ℕ × Place)). on_part None w λ n e. pick (ltb n names) (Some (n, e)) None) (word_same p h)
 
   count_same : (least : ℕ) (p : Place) → p.0 + 1 < m → count_at least s p ≡ count_at least s' p
   unfolding count_at
-  count_same least p h = ap (λ (w : Word). on_word W.Missing w λ n e. pick (leb least n) (W.Of n e) W.Missing) (word_same p h)
+  count_same least p h = ap (λ (w : Option (ℕ × Place)). on_part None w λ n e. pick (leb least n) (Some (n, e)) None) (word_same p h)
 
   op_same : (limit : ℕ) (p : Place) → p.0 < m → op_at limit s p ≡ op_at limit s' p
   unfolding op_at
-  op_same limit p h = on_byte_same B.Missing p _ _ h (λ o e i. refl)
+  op_same limit p h = on_byte_same None p _ _ h (λ o e i. refl)
 
   few-same : (p : Place) → p.0 < m → few_at s p ≡ few_at s' p
   unfolding few_at
-  few-same p h = on_byte_same B.Missing p _ _ h (λ o e i. refl)
+  few-same p h = on_byte_same None p _ _ h (λ o e i. refl)
 
   -- an operator's end
-  op_end : {A : Type 0} (z : A) (limit : ℕ) (p : Place) (f f' : ℕ → Place → A) → p.0 < m → ((b : ℕ) (e : Place) → e.0 ≡ p.0 + 1 → f b e ≡ f' b e) → on_byte z (op_at limit s p) f ≡ on_byte z (op_at limit s' p) f'
-  unfolding op_at on_byte
+  op_end : {A : Type 0} (z : A) (limit : ℕ) (p : Place) (f f' : ℕ → Place → A) → p.0 < m → ((b : ℕ) (e : Place) → e.0 ≡ p.0 + 1 → f b e ≡ f' b e) → on_part z (op_at limit s p) f ≡ on_part z (op_at limit s' p) f'
+  unfolding op_at on_part
   op_end z limit p f f' h c =
       rw (← byte_in s p (omega arith), ← byte_in s' p (omega arith), agree p.0 h) (go (ltb (get_or s' p.0 0) limit))
     where
-      go : (b : Bool) → on_byte z (pick b (B.Of (get_or s' p.0 0) (place (p.0 + 1))) B.Missing) f ≡ on_byte z (pick b (B.Of (get_or s' p.0 0) (place (p.0 + 1))) B.Missing) f'
+      go : (b : Bool) → on_part z (pick b (Some ((get_or s' p.0 0), (place (p.0 + 1)))) None) f ≡ on_part z (pick b (Some ((get_or s' p.0 0), (place (p.0 + 1)))) None) f'
       go true = c (get_or s' p.0 0) (place (p.0 + 1)) refl
       go false = refl
 
@@ -184,47 +170,47 @@ module _ (names : ℕ) (s s' : List ℕ) (m : ℕ) (short : m ≤ length s) (sho
   body_same : (bare : Bool) (k : ℕ) (p : Place) → p.0 + 3 ≤ m → expr_body names s bare k p ≡ expr_body names s' bare k p
   unfolding expr_body
   body_same bare k p h =
-      pick_same (eqb k 0x01) _ _ _ _ (word_cong E.Wrong _ _ _ (name-same p (omega arith)))
-      (pick_same (eqb k 0x02) _ _ _ _ (word_cong E.Wrong _ _ _ (word_same p (omega arith)))
+      pick_same (eqb k 0x01) _ _ _ _ (part_cong None _ _ _ (name-same p (omega arith)))
+      (pick_same (eqb k 0x02) _ _ _ _ (part_cong None _ _ _ (word_same p (omega arith)))
       (pick_same (eqb k 0x03) _ _ _ _ refl
-      (pick_same (eqb k 0x04) _ _ _ _ (byte_cong E.Wrong _ _ _ (op_same 12 p (omega arith)))
-      (pick_same (eqb k 0x05) _ _ _ _ (word_cong E.Wrong _ _ _ (count_same 1 p (omega arith)))
+      (pick_same (eqb k 0x04) _ _ _ _ (part_cong None _ _ _ (op_same 12 p (omega arith)))
+      (pick_same (eqb k 0x05) _ _ _ _ (part_cong None _ _ _ (count_same 1 p (omega arith)))
       (pick_same (eqb k 0x06) _ _ _ _ refl
-      (pick_same (eqb k 0x07) _ _ _ _ (byte_cong E.Wrong _ _ _ (op_same 27 p (omega arith)))
-      (pick_same (eqb k 0x08) _ _ _ _ (op_end E.Wrong 7 p _ _ (omega arith) (λ o q i. word_cong E.Wrong _ _ _ (count_same 2 q (omega arith))))
-      (pick_same (eqb k 0x09) _ _ _ _ (byte_cong E.Wrong _ _ _ (op_same 11 p (omega arith)))
-      (pick_same (eqb k 0x0A) _ _ _ _ (op_end E.Wrong 3 p _ _ (omega arith) (λ o q i. byte_cong E.Wrong _ _ _ (few-same q (omega arith))))
+      (pick_same (eqb k 0x07) _ _ _ _ (part_cong None _ _ _ (op_same 27 p (omega arith)))
+      (pick_same (eqb k 0x08) _ _ _ _ (op_end None 7 p _ _ (omega arith) (λ o q i. part_cong None _ _ _ (count_same 2 q (omega arith))))
+      (pick_same (eqb k 0x09) _ _ _ _ (part_cong None _ _ _ (op_same 11 p (omega arith)))
+      (pick_same (eqb k 0x0A) _ _ _ _ (op_end None 3 p _ _ (omega arith) (λ o q i. part_cong None _ _ _ (few-same q (omega arith))))
       refl)))))))))
 
   expr-head-same : (bare : Bool) (p : Place) → p.0 + 4 ≤ m → expr_head names s bare p ≡ expr_head names s' bare p
   unfolding expr_head
-  expr-head-same bare p h = on_byte_same E.Wrong p _ _ (omega arith) (λ k q e. body_same bare k q (omega arith))
+  expr-head-same bare p h = on_byte_same None p _ _ (omega arith) (λ k q e. body_same bare k q (omega arith))
 
   pred_body_same : (k : ℕ) (p : Place) → p.0 + 3 ≤ m → pred_body s k p ≡ pred_body s' k p
   unfolding pred_body
   pred_body_same k p h =
       pick_same (eqb k 0x20) _ _ _ _ refl
       (pick_same (eqb k 0x21) _ _ _ _ refl
-      (pick_same (eqb k 0x22) _ _ _ _ (byte_cong P.Wrong _ _ _ (op_same 12 p (omega arith)))
+      (pick_same (eqb k 0x22) _ _ _ _ (part_cong None _ _ _ (op_same 12 p (omega arith)))
       (pick_same (eqb k 0x23) _ _ _ _ refl
-      (pick_same (eqb k 0x24) _ _ _ _ (word_cong P.Wrong _ _ _ (count_same 2 p (omega arith)))
+      (pick_same (eqb k 0x24) _ _ _ _ (part_cong None _ _ _ (count_same 2 p (omega arith)))
       (pick_same (eqb k 0x25) _ _ _ _ refl
-      (pick_same (eqb k 0x26) _ _ _ _ (byte_cong P.Wrong _ _ _ (few-same p (omega arith)))
+      (pick_same (eqb k 0x26) _ _ _ _ (part_cong None _ _ _ (few-same p (omega arith)))
       (pick_same (eqb k 0x27) _ _ _ _ refl
-      (pick_same (eqb k 0x28) _ _ _ _ (word_cong P.Wrong _ _ _ (count_same 1 p (omega arith)))
-      (pick_same (eqb k 0x29) _ _ _ _ (word_cong P.Wrong _ _ _ (word_same p (omega arith))) refl)))))))))
+      (pick_same (eqb k 0x28) _ _ _ _ (part_cong None _ _ _ (count_same 1 p (omega arith)))
+      (pick_same (eqb k 0x29) _ _ _ _ (part_cong None _ _ _ (word_same p (omega arith))) refl)))))))))
 
   pred_head-same : (p : Place) → p.0 + 4 ≤ m → pred_head s p ≡ pred_head s' p
   unfolding pred_head
-  pred_head-same p h = on_byte_same P.Wrong p _ _ (omega arith) (λ k q e. pred_body_same k q (omega arith))
+  pred_head-same p h = on_byte_same None p _ _ (omega arith) (λ k q e. pred_body_same k q (omega arith))
 
   decl_head-same : (p : Place) → p.0 + 4 ≤ m → decl_head s p ≡ decl_head s' p
   unfolding decl_head
-  decl_head-same p h = on_byte_same D.Wrong p _ _ (omega arith) (λ k q e. refl)
+  decl_head-same p h = on_byte_same None p _ _ (omega arith) (λ k q e. refl)
 
   target-same : (p : Place) → p.0 + 4 ≤ m → target_at names s p ≡ target_at names s' p
   unfolding target_at
-  target-same p h = on_byte_same W.Missing p _ _ (omega arith) (λ k q e. pick_same (eqb k 0x01) _ _ _ _ (name-same q (omega arith)) refl)
+  target-same p h = on_byte_same None p _ _ (omega arith) (λ k q e. pick_same (eqb k 0x01) _ _ _ _ (name-same q (omega arith)) refl)
 
   -- ---- types
 
@@ -326,10 +312,10 @@ module _ (names : ℕ) (s s' : List ℕ) (m : ℕ) (short : m ≤ length s) (sho
   none_rep zero e st h = rep_bad Spelling m st.at.0 (Beyond st.at) (omega arith)
   none_rep (suc left) e st h = rep_ok m st.at.0 _ no_type h
 
-  spelling_by : (left : ℕ) (st : St) (b : Byte) → byte_at s st.at ≡ b → Rep m st.at.0 (on_byte (spelled_in names s left st) b λ k e. pick (eqb k 0x4F) (read_no_type left e st) (spelled_in names s left st)) (on_byte (spelled_in names s' left st) b λ k e. pick (eqb k 0x4F) (read_no_type left e st) (spelled_in names s' left st))
-  unfolding on_byte
-  spelling_by left st B.Missing h = spelled_rep left st
-  spelling_by left st (B.Of k e) h = go (eqb k 0x4F)
+  spelling_by : (left : ℕ) (st : St) (b : Option (ℕ × Place)) → byte_at s st.at ≡ b → Rep m st.at.0 (on_part (spelled_in names s left st) b λ k e. pick (eqb k 0x4F) (read_no_type left e st) (spelled_in names s left st)) (on_part (spelled_in names s' left st) b λ k e. pick (eqb k 0x4F) (read_no_type left e st) (spelled_in names s' left st))
+  unfolding on_part
+  spelling_by left st None h = spelled_rep left st
+  spelling_by left st (Some (k, e)) h = go (eqb k 0x4F)
     where
       ends : st.at.0 ≤ e.0
       ends = byte_ends s st.at k e h
@@ -339,27 +325,27 @@ module _ (names : ℕ) (s s' : List ℕ) (m : ℕ) (short : m ≤ length s) (sho
       go false = spelled_rep left st
 
   byte_same : (p : Place) → p.0 < m → byte_at s p ≡ byte_at s' p
-  byte_same p h = sym (byte_in s p (omega arith)) ∙ ap (λ (b : ℕ). B.Of b (place (p.0 + 1))) (agree p.0 h) ∙ byte_in s' p (omega arith)
+  byte_same p h = sym (byte_in s p (omega arith)) ∙ ap (λ (b : ℕ). Some (b, (place (p.0 + 1)))) (agree p.0 h) ∙ byte_in s' p (omega arith)
 
   spelling_rep : (left : ℕ) (st : St) → Rep m st.at.0 (spelling_in names s left st) (spelling_in names s' left st)
   unfolding spelling_in
   spelling_rep left st = go (dec_le (st.at.0 + 4) m)
     where
-      go : Dec (st.at.0 + 4 ≤ m) → Rep m st.at.0 (on_byte (spelled_in names s left st) (byte_at s st.at) λ k e. pick (eqb k 0x4F) (read_no_type left e st) (spelled_in names s left st)) (on_byte (spelled_in names s' left st) (byte_at s' st.at) λ k e. pick (eqb k 0x4F) (read_no_type left e st) (spelled_in names s' left st))
+      go : Dec (st.at.0 + 4 ≤ m) → Rep m st.at.0 (on_part (spelled_in names s left st) (byte_at s st.at) λ k e. pick (eqb k 0x4F) (read_no_type left e st) (spelled_in names s left st)) (on_part (spelled_in names s' left st) (byte_at s' st.at) λ k e. pick (eqb k 0x4F) (read_no_type left e st) (spelled_in names s' left st))
       go (yes h) = rw (← byte_same st.at (omega arith)) (spelling_by left st (byte_at s st.at) refl)
       go (no h) = rep_far m st.at.0 _ _ _ (omega arith) (spelling_by left st (byte_at s st.at) refl)
 
-  decl_by_rep : (left : ℕ) (st : St) (h : DeclHead) → DeclSays s st.at.0 (D.Is h) → Rep m st.at.0 (decl_by names s left st h) (decl_by names s' left st h)
+  decl_by_rep : (left : ℕ) (st : St) (h : DeclHead) → DeclSays s st.at.0 (Some h) → Rep m st.at.0 (decl_by names s left st h) (decl_by names s' left st h)
   unfolding decl_by DeclSays
   decl_by_rep left st (Plain e) x = rep_declare Decl m e st _ _ (let i = x.ends in omega arith) (λ t. rep_ok m t.at.0 t _ (omega arith))
   decl_by_rep left st (Typed e) x = rep_declare Decl m e st _ _ (let i = x.ends in omega arith) (λ t. rep_last m t.at.0 (type_in names s left t) (type_in names s' left t) _ (type_in_rep left t))
   decl_by_rep left st (Annotated e) x = rep_declare Decl m e st _ _ (let i = x.ends in omega arith) (λ t. rep_last m t.at.0 (spelling_in names s left t) (spelling_in names s' left t) _ (spelling_rep left t))
 
-  decl_if_rep : (left : ℕ) (st : St) (h : DeclAt) → DeclSays s st.at.0 h → Rep m st.at.0 (decl_if names s left st h) (decl_if names s' left st h)
+  decl_if_rep : (left : ℕ) (st : St) (h : Option DeclHead) → DeclSays s st.at.0 h → Rep m st.at.0 (decl_if names s left st h) (decl_if names s' left st h)
   unfolding decl_if at_fault
-  decl_if_rep left st D.Wrong x = rep_bad Decl m st.at.0 (Malformed st.at) (omega arith)
-  decl_if_rep zero st (D.Is h) x = rep_bad Decl m st.at.0 (Beyond st.at) (omega arith)
-  decl_if_rep (suc left) st (D.Is h) x = decl_by_rep left st h x
+  decl_if_rep left st None x = rep_bad Decl m st.at.0 (Malformed st.at) (omega arith)
+  decl_if_rep zero st (Some h) x = rep_bad Decl m st.at.0 (Beyond st.at) (omega arith)
+  decl_if_rep (suc left) st (Some h) x = decl_by_rep left st h x
 
   decl_rep : (left : ℕ) (st : St) → Rep m st.at.0 (decl_at names s left st) (decl_at names s' left st)
   unfolding decl_at
@@ -410,7 +396,7 @@ module _ (names : ℕ) (s s' : List ℕ) (m : ℕ) (short : m ≤ length s) (sho
     unfolding moved
     ok-moved e a h = rep_ok m st.at.0 (record { at = e; slots = st.slots; opened = st.opened }) a h
 
-    expr-by_rep : (bare : Bool) (h : ExprHead) → ExprSays names s bare st.at.0 (E.Is h) → Rep m st.at.0 (expr_by names s left X Q st h) (expr_by names s' left X' Q' st h)
+    expr-by_rep : (bare : Bool) (h : ExprHead) → ExprSays names s bare st.at.0 (Some h) → Rep m st.at.0 (expr_by names s left X Q st h) (expr_by names s' left X' Q' st h)
     unfolding expr_by ExprSays
     expr-by_rep bare (Free n e) x = rep_own Expr m e st _ _ (let i = x.1.ends in omega arith) (λ t. rep_ok m t.at.0 t _ (omega arith))
     expr-by_rep bare (Bound i e) x = rep_own Expr m e st _ _ (let i = x.ends in omega arith) (λ t. rep_ok m t.at.0 t _ (omega arith))
@@ -425,7 +411,7 @@ module _ (names : ℕ) (s s' : List ℕ) (m : ℕ) (short : m ≤ length s) (sho
     expr-by_rep bare (Ascribed e) x = rep_own Expr m e st _ _ (let i = x.ends in omega arith) (λ t. rep_then m t.at.0 (X false t) (X' false t) _ _ (hX false t) (λ a u. rep_then m u.at.0 (spelling_in names s left u) (spelling_in names s' left u) _ _ (spelling_rep left u) (λ b v. rep_ok m v.at.0 v _ (omega arith))))
     expr-by_rep bare (Explicit e) x = rep_low m st.at.0 e.0 _ _ (let i = x.1.ends in omega arith) (rep_then m e.0 (type_in names s left (moved e st)) (type_in names s' left (moved e st)) _ _ (type-moved e) (λ a t. rep_last m t.at.0 (X true t) (X' true t) _ (hX true t)))
 
-    pred_by_rep : (h : PredHead) → PredSays s st.at.0 (P.Is h) → Rep m st.at.0 (pred_by names s left X Q st h) (pred_by names s' left X' Q' st h)
+    pred_by_rep : (h : PredHead) → PredSays s st.at.0 (Some h) → Rep m st.at.0 (pred_by names s left X Q st h) (pred_by names s' left X' Q' st h)
     unfolding pred_by PredSays
     pred_by_rep (Constant e) x = ok-moved e _ (let i = x.ends in omega arith)
     pred_by_rep (Variable e) x = ok-moved e _ (let i = x.ends in omega arith)
@@ -438,25 +424,25 @@ module _ (names : ℕ) (s s' : List ℕ) (m : ℕ) (short : m ≤ length s) (sho
     pred_by_rep (Multiple n e) x = rep_low m st.at.0 e.0 _ _ (let i = x.1.ends in omega arith) (rep_last m e.0 (many none more (X false) n (moved e st)) (many none more (X' false) n (moved e st)) _ (all_moved n e))
     pred_by_rep (Application n e) x = rep_low m st.at.0 e.0 _ _ (let i = x.ends in omega arith) (rep_last m e.0 (many none more (X false) n (moved e st)) (many none more (X' false) n (moved e st)) _ (all_moved n e))
 
-    expr_if_rep : (bare : Bool) (h : ExprAt) → ExprSays names s bare st.at.0 h → Rep m st.at.0 (expr_if names s left X Q st h) (expr_if names s' left X' Q' st h)
+    expr_if_rep : (bare : Bool) (h : Option ExprHead) → ExprSays names s bare st.at.0 h → Rep m st.at.0 (expr_if names s left X Q st h) (expr_if names s' left X' Q' st h)
     unfolding expr_if at_fault
-    expr_if_rep bare E.Wrong x = rep_bad Expr m st.at.0 (Malformed st.at) (omega arith)
-    expr_if_rep bare (E.Is h) x = expr-by_rep bare h x
+    expr_if_rep bare None x = rep_bad Expr m st.at.0 (Malformed st.at) (omega arith)
+    expr_if_rep bare (Some h) x = expr-by_rep bare h x
 
-    pred_if_rep : (h : PredAt) → PredSays s st.at.0 h → Rep m st.at.0 (pred_if names s left X Q st h) (pred_if names s' left X' Q' st h)
+    pred_if_rep : (h : Option PredHead) → PredSays s st.at.0 h → Rep m st.at.0 (pred_if names s left X Q st h) (pred_if names s' left X' Q' st h)
     unfolding pred_if at_fault
-    pred_if_rep P.Wrong x = rep_bad Pred m st.at.0 (Malformed st.at) (omega arith)
-    pred_if_rep (P.Is h) x = pred_by_rep h x
+    pred_if_rep None x = rep_bad Pred m st.at.0 (Malformed st.at) (omega arith)
+    pred_if_rep (Some h) x = pred_by_rep h x
 
-  expr-deep_rep : (st : St) (h : ExprAt) → Rep m st.at.0 (expr_deep st h) (expr_deep st h)
+  expr-deep_rep : (st : St) (h : Option ExprHead) → Rep m st.at.0 (expr_deep st h) (expr_deep st h)
   unfolding expr_deep at_fault
-  expr-deep_rep st E.Wrong = rep_bad Expr m st.at.0 (Malformed st.at) (omega arith)
-  expr-deep_rep st (E.Is h) = rep_bad Expr m st.at.0 (Beyond st.at) (omega arith)
+  expr-deep_rep st None = rep_bad Expr m st.at.0 (Malformed st.at) (omega arith)
+  expr-deep_rep st (Some h) = rep_bad Expr m st.at.0 (Beyond st.at) (omega arith)
 
-  pred_deep_rep : (st : St) (h : PredAt) → Rep m st.at.0 (pred_deep st h) (pred_deep st h)
+  pred_deep_rep : (st : St) (h : Option PredHead) → Rep m st.at.0 (pred_deep st h) (pred_deep st h)
   unfolding pred_deep at_fault
-  pred_deep_rep st P.Wrong = rep_bad Pred m st.at.0 (Malformed st.at) (omega arith)
-  pred_deep_rep st (P.Is h) = rep_bad Pred m st.at.0 (Beyond st.at) (omega arith)
+  pred_deep_rep st None = rep_bad Pred m st.at.0 (Malformed st.at) (omega arith)
+  pred_deep_rep st (Some h) = rep_bad Pred m st.at.0 (Beyond st.at) (omega arith)
 
   -- a record whose head is the same, or lies too far on
   by-head : {A H : Type 0} (st : St) (f f' : H → Got A) (h h' : H) → (st.at.0 + 4 ≤ m → h ≡ h') → Rep m st.at.0 (f h) (f' h) → Rep m st.at.0 (f h) (f' h')
@@ -487,10 +473,10 @@ module _ (names : ℕ) (s s' : List ℕ) (m : ℕ) (short : m ≤ length s) (sho
   rep_pick p true x x' y y' h k = h
   rep_pick p false x x' y y' h k = k
 
-  target-by_rep : (st : St) (w : Word) → TargetSays names s st.at.0 w → Rep m st.at.0 (target_by st w) (target_by st w)
+  target-by_rep : (st : St) (w : Option (ℕ × Place)) → TargetSays names s st.at.0 w → Rep m st.at.0 (target_by st w) (target_by st w)
   unfolding target_by TargetSays at_fault
-  target-by_rep st W.Missing x = rep_bad Target m st.at.0 (Malformed st.at) (omega arith)
-  target-by_rep st (W.Of n e) x = rep_own Target m e st _ _ (let i = x.1.ends in omega arith) (λ t. rep_ok m t.at.0 t _ (omega arith))
+  target-by_rep st None x = rep_bad Target m st.at.0 (Malformed st.at) (omega arith)
+  target-by_rep st (Some (n, e)) x = rep_own Target m e st _ _ (let i = x.1.ends in omega arith) (λ t. rep_ok m t.at.0 t _ (omega arith))
 
   target_rep : (st : St) → Rep m st.at.0 (target_in names s st) (target_in names s' st)
   unfolding target_in
@@ -509,7 +495,7 @@ module _ (names : ℕ) (s s' : List ℕ) (m : ℕ) (short : m ≤ length s) (sho
   pairs_rep n st = rep_many m [] ◌∷◌ (pair_in max_depth names s) (pair_in max_depth names s') pair_rep n st
 
   -- an assignment, read on from t
-  becomes_rep : (n : ℕ) (t : St) (p k : ℕ) → p ≤ t.at.0 → (f : Fault) → p ≤ at_fault f → (r : ℕ) → Rep m p
+  becomes_rep : (n : ℕ) (t : St) (p k : ℕ) → p ≤ t.at.0 → (f : Fault Place) → p ≤ at_fault f → (r : ℕ) → Rep m p
       (pick (eqb k 0x30) (and_then (pairs_at max_depth names s (suc n) t) λ xs st₁. ok st₁ (becomes r xs))
       (pick (eqb k 0x31) (and_then (target_in names s t) λ a st₁. and_then (targets_at names s n st₁) λ ts st₂. and_then (expr_at max_depth names s false st₂) λ b st₃. ok st₃ (becomes_in r a ts b))
       (pick (eqb k 0x32) (and_then (targets_at names s (suc n) t) λ ts st₁. and_then (decls_at names s max_depth (suc n) st₁) λ ds st₂. and_then (pred_at max_depth names s st₂) λ q st₃. ok st₃ (becomes_such r ts ds q)) (bad f))))
@@ -527,27 +513,27 @@ module _ (names : ℕ) (s s' : List ℕ) (m : ℕ) (short : m ≤ length s) (sho
   becomes-by_rep zero e st k h = rep_bad Formula m st.at.0 (Malformed st.at) (omega arith)
   becomes-by_rep (suc n) e st k h = becomes_rep n (record { at = e; slots = st.slots; opened = st.opened }) st.at.0 k h (Malformed st.at) (omega arith) st.at.0
 
-  few-ends : (p : Place) (n : ℕ) (e : Place) → few_at s p ≡ B.Of n e → p.0 ≤ e.0
-  unfolding few_at on_byte
+  few-ends : (p : Place) (n : ℕ) (e : Place) → few_at s p ≡ Some (n, e) → p.0 ≤ e.0
+  unfolding few_at on_part
   few-ends p n e = go (byte_at s p) refl
     where
-      on : (b : ℕ) (q : Place) → byte_at s p ≡ B.Of b q → (c : Bool) → pick c (B.Of b q) B.Missing ≡ B.Of n e → p.0 ≤ e.0
-      on b q k true h = let z : q ≡ e = cc in rw (← z) (byte_ends s p b q k)
+      on : (b : ℕ) (q : Place) → byte_at s p ≡ Some (b, q) → (c : Bool) → pick {A = Option (ℕ × Place)} c (Some (b, q)) None ≡ Some (n, e) → p.0 ≤ e.0
+      on b q k true h = rw (← (same_part b n q e h).1) (byte_ends s p b q k)
       on b q k false h = absurd (let z : ◌≡◌ {A = ℕ} 0 1 = cc in omega arith)
 
-      go : (x : Byte) → byte_at s p ≡ x → (on_byte B.Missing x λ b q. pick (leb 1 b) (B.Of b q) B.Missing) ≡ B.Of n e → p.0 ≤ e.0
-      go B.Missing k h = absurd (let z : ◌≡◌ {A = ℕ} 0 1 = cc in omega arith)
-      go (B.Of b q) k h = on b q k (leb 1 b) h
+      go : (x : Option (ℕ × Place)) → byte_at s p ≡ x → (on_part {A = Option (ℕ × Place)} None x λ b q. pick (leb 1 b) (Some (b, q)) None) ≡ Some (n, e) → p.0 ≤ e.0
+      go None k h = absurd (let z : ◌≡◌ {A = ℕ} 0 1 = cc in omega arith)
+      go (Some (b, q)) k h = on b q k (leb 1 b) h
 
-  by-few : (st : St) (k : ℕ) (p : Place) → st.at.0 ≤ p.0 → (b : Byte) → few_at s p ≡ b → Rep m st.at.0 (on_byte (bad (Malformed st.at)) b λ n e. becomes_by max_depth names s n e st k) (on_byte (bad (Malformed st.at)) b λ n e. becomes_by max_depth names s' n e st k)
-  unfolding on_byte at_fault
-  by-few st k p h B.Missing i = rep_bad Formula m st.at.0 (Malformed st.at) (omega arith)
-  by-few st k p h (B.Of n e) i = becomes-by_rep n e st k (let j = few-ends p n e i in omega arith)
+  by-few : (st : St) (k : ℕ) (p : Place) → st.at.0 ≤ p.0 → (b : Option (ℕ × Place)) → few_at s p ≡ b → Rep m st.at.0 (on_part (bad (Malformed st.at)) b λ n e. becomes_by max_depth names s n e st k) (on_part (bad (Malformed st.at)) b λ n e. becomes_by max_depth names s' n e st k)
+  unfolding on_part at_fault
+  by-few st k p h None i = rep_bad Formula m st.at.0 (Malformed st.at) (omega arith)
+  by-few st k p h (Some (n, e)) i = becomes-by_rep n e st k (let j = few-ends p n e i in omega arith)
 
   becomes-at_rep : (st : St) (k : ℕ) (p : Place) → st.at.0 ≤ p.0 → p.0 ≤ st.at.0 + 1 → Rep m st.at.0 (becomes_at names s st k p) (becomes_at names s' st k p)
   unfolding becomes_at
   becomes-at_rep st k p h l =
-      by-head st (λ (b : Byte). on_byte (bad (Malformed st.at)) b λ n e. becomes_by max_depth names s n e st k) (λ (b : Byte). on_byte (bad (Malformed st.at)) b λ n e. becomes_by max_depth names s' n e st k) (few_at s p) (few_at s' p) (λ i. few-same p (omega arith)) (by-few st k p h (few_at s p) refl)
+      by-head st (λ (b : Option (ℕ × Place)). on_part (bad (Malformed st.at)) b λ n e. becomes_by max_depth names s n e st k) (λ (b : Option (ℕ × Place)). on_part (bad (Malformed st.at)) b λ n e. becomes_by max_depth names s' n e st k) (few_at s p) (few_at s' p) (λ i. few-same p (omega arith)) (by-few st k p h (few_at s p) refl)
 
   root_rep : (st : St) (k : ℕ) (p : Place) → st.at.0 ≤ p.0 → p.0 ≤ st.at.0 + 1 → Rep m st.at.0 (root_by names s st k p) (root_by names s' st k p)
   unfolding root_by
@@ -555,14 +541,14 @@ module _ (names : ℕ) (s s' : List ℕ) (m : ℕ) (short : m ≤ length s) (sho
       rep_pick st.at.0 (ltb k 0x20) _ _ _ _ (rep_last m st.at.0 (expr_at levels names s false st) (expr_at levels names s' false st) expression (expr_rep levels false st))
       (rep_pick st.at.0 (ltb k 0x30) _ _ _ _ (rep_last m st.at.0 (pred_at levels names s st) (pred_at levels names s' st) predicate (pred_rep levels st)) (becomes-at_rep st k p h l))
 
-  by_byte : (st : St) (b : Byte) → byte_at s st.at ≡ b → Rep m st.at.0 (on_byte (bad (Malformed st.at)) b (root_by names s st)) (on_byte (bad (Malformed st.at)) b (root_by names s' st))
-  unfolding on_byte at_fault
-  by_byte st B.Missing i = rep_bad Formula m st.at.0 (Malformed st.at) (omega arith)
-  by_byte st (B.Of k p) i = root_rep st k p (byte_ends s st.at k p i) (byte_most s st.at k p i)
+  by_byte : (st : St) (b : Option (ℕ × Place)) → byte_at s st.at ≡ b → Rep m st.at.0 (on_part (bad (Malformed st.at)) b (root_by names s st)) (on_part (bad (Malformed st.at)) b (root_by names s' st))
+  unfolding on_part at_fault
+  by_byte st None i = rep_bad Formula m st.at.0 (Malformed st.at) (omega arith)
+  by_byte st (Some (k, p)) i = root_rep st k p (byte_ends s st.at k p i) (byte_most s st.at k p i)
 
   formula_rep : (st : St) → Rep m st.at.0 (formula_at names s st) (formula_at names s' st)
   unfolding formula_at
-  formula_rep st = by-head st (λ (b : Byte). on_byte (bad (Malformed st.at)) b (root_by names s st)) (λ (b : Byte). on_byte (bad (Malformed st.at)) b (root_by names s' st)) (byte_at s st.at) (byte_at s' st.at) (λ i. byte_same st.at (omega arith)) (by_byte st (byte_at s st.at) refl)
+  formula_rep st = by-head st (λ (b : Option (ℕ × Place)). on_part (bad (Malformed st.at)) b (root_by names s st)) (λ (b : Option (ℕ × Place)). on_part (bad (Malformed st.at)) b (root_by names s' st)) (byte_at s st.at) (byte_at s' st.at) (λ i. byte_same st.at (omega arith)) (by_byte st (byte_at s st.at) refl)
 
   finish-self : (st : St) (a : Formula) (c : Bool) → Rep m st.at.0 (pick c (bad (Malformed st.at)) (ok st a)) (pick c (bad (Malformed st.at)) (ok st a))
   unfolding at_fault
@@ -584,7 +570,7 @@ module _ (names : ℕ) (s s' : List ℕ) (m : ℕ) (short : m ≤ length s) (sho
   unfolding whole
   whole_rep = rep_then m 0 (formula_at names s start) (formula_at names s' start) _ _ (formula_rep start) (λ f st. finish_rep st f)
 
-  by_whole : (f : Fault) → at_fault f + 4 ≤ m → (g g' : Got Formula) → Rep m 0 g g' → parsed_by g ≡ faulty f → parsed_by g' ≡ faulty f
+  by_whole : (f : Fault Place) → at_fault f + 4 ≤ m → (g g' : Got Formula) → Rep m 0 g g' → parsed_by g ≡ faulty f → parsed_by g' ≡ faulty f
   unfolding Rep parsed_by
   by_whole f h (ok t a) g' r e = absurd (let z : ◌≡◌ {A = ℕ} 0 1 = cc in omega arith)
   by_whole f h (bad x) g' r e =
@@ -593,7 +579,7 @@ module _ (names : ℕ) (s s' : List ℕ) (m : ℕ) (short : m ≤ length s) (sho
       rw (r.1 i) e
 
   -- the same fault
-  pub fault-stays : (f : Fault) → at_fault f + 4 ≤ m → length s ≤ max_bytes → length s' ≤ max_bytes → parse_of names s ≡ faulty f → parse_of names s' ≡ faulty f
+  pub fault-stays : (f : Fault Place) → at_fault f + 4 ≤ m → length s ≤ max_bytes → length s' ≤ max_bytes → parse_of names s ≡ faulty f → parse_of names s' ≡ faulty f
   unfolding parse_of
   fault-stays f h l l' e =
       let e' : parsed_by (whole names s) ≡ faulty f = sym (rw (le-ltb max_bytes (length s) l)) ∙ e in

@@ -2,7 +2,8 @@
 ghost use Rattle.std.specs.Prelude.{◌≡◌};
 ghost use Rattle.runner.specs.Answers.{told};
 
-use runner::Answer;
+use runner::{Answer, Refusal, Verdict};
+use types::Place;
 
 #[derive(Clone, Copy)]
 pub struct Told {
@@ -12,18 +13,7 @@ pub struct Told {
     pub steps: u64,
 }
 
-fn refusal(number: u32, place: u32) -> Told
-    ensures { result ≡ record { number = number; place = place; length = 0; steps = 0 } }
-{
-    Told {
-        number,
-        place: place as u64,
-        length: 0,
-        steps: 0,
-    }
-}
-
-#[tactic(auto, unfolding(runner::specs::Answers::told))]
+#[tactic(auto, unfolding(runner::specs::Answers::told, runner::specs::Answers::number_of))]
 pub fn tell(answer: Answer) -> Told
     ensures number_value { result.number ≡ (told answer).number }
     ensures place_value { result.place ≡ (told answer).place }
@@ -31,24 +21,31 @@ pub fn tell(answer: Answer) -> Told
     ensures steps_value { result.steps ≡ (told answer).steps }
 {
     match answer {
-        Answer::Typed(n, k) => Told {
-            number: 0,
+        Ok(outcome) => Told {
+            number: match outcome.verdict {
+                Verdict::Typed => 0,
+                Verdict::Problems => 1,
+            },
             place: 0,
-            length: n as u64,
-            steps: k,
+            length: outcome.length as u64,
+            steps: outcome.steps,
         },
-        Answer::Problems(n, k) => Told {
-            number: 1,
-            place: 0,
-            length: n as u64,
-            steps: k,
-        },
-        Answer::Oversized => refusal(2, 0),
-        Answer::BadEnvironment(p) => refusal(3, p.0),
-        Answer::BadFormula(p) => refusal(4, p.0),
-        Answer::Beyond(p) => refusal(5, p.0),
-        Answer::Full => refusal(6, 0),
-        Answer::Spent => refusal(7, 0),
-        Answer::NoRoom => refusal(8, 0),
+        Err(refusal) => {
+            let (number, place) = match refusal {
+                Refusal::Oversized => (2, Place(0)),
+                Refusal::BadEnvironment(place) => (3, place),
+                Refusal::BadFormula(place) => (4, place),
+                Refusal::Beyond(place) => (5, place),
+                Refusal::Full => (6, Place(0)),
+                Refusal::Spent => (7, Place(0)),
+                Refusal::NoRoom => (8, Place(0)),
+            };
+            Told {
+                number,
+                place: u64::from(place.0),
+                length: 0,
+                steps: 0,
+            }
+        }
     }
 }

@@ -1,5 +1,6 @@
 // The four entries that the workbench calls, with numbers and slices. Each result is the answer's number; place, length and steps are always written.
-// After this file a reader knows what a call leaves behind: what `infer_of`, `read_answer` and `write_answer` say, and nothing else.
+// After this file a reader knows what a call leaves behind: what `infer_of`, `read_answer` and `write_answer` say, and nothing else. Signatures, with what is
+// written through references, and clauses are those of the C interface (crate `host_c`), entry by entry.
 #![tactic(auto)]
 
 mod answer;

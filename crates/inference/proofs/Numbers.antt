@@ -8,7 +8,7 @@ use Rattle.std.proofs.Math.Decide.{dec_le, ℕ_discrete}
 use Rattle.std.proofs.lemmas.List.{length-replicate}
 use Rattle.std.proofs.lemmas.Bool.{lt-leb}
 use Rattle.meter.specs.Meter.{Out, done}
-use Rattle.formula.specs.declared.Fault.TheVariants.{Malformed, Beyond}
+use Rattle.types.specs.declared.Fault.TheVariants.{Malformed, Beyond}
 use Rattle.formula.specs.Tree.{Formula}
 use Rattle.formula.specs.Environment.{Entries, lookup}
 use Rattle.formula.specs.Parse.{Parsed, parsed, too_long, faulty, parse_of}

@@ -2,11 +2,12 @@
 -- The code's contract cites this definition and the promises speak of it. After it a reader can reckon number, place, length,
 -- steps and every byte of any call; nothing but the inputs enters.
 -- (`[]` and `◌∷◌` serve must-fail/one_fixed_answer, which writes a list here)
+use Rattle.types.specs.declared.Place.{Place}
 use Rattle.std.specs.Prelude.{ℕ, ◌+◌, ◌*◌, ◌-◌, Bool, true, false, ◌&&◌, List, [], ◌∷◌, ◌++◌, length, replicate, leb, eqb}
 use Rattle.types.specs.Limits.{max_bytes, max_names, max_capacity, book}
 use Rattle.meter.specs.Meter.{Out, spent, halt, done, broken, full, M, ◌>>=◌}
-use Rattle.formula.specs.declared.Fault.{Fault}
-use Rattle.formula.specs.declared.Fault.TheVariants.{Malformed, Beyond}
+use Rattle.types.specs.declared.Fault.{Fault}
+use Rattle.types.specs.declared.Fault.TheVariants.{Malformed, Beyond}
 use Rattle.formula.specs.Tree.{Formula}
 use Rattle.formula.specs.Environment.{Env, Entries, lookup, spell_entries}
 use Rattle.formula.specs.Parse.{Parsed, parsed, too_long, faulty, parse_of}
@@ -53,7 +54,7 @@ answered budget room (halt full e) = refused 6 0
 answered budget room (halt broken e) = refused 2 0
 
 -- ---- 3, 4 and 5: a fault of form, by the number of what is malformed
-unfoldable pub blamed : ℕ → Fault → Answer
+unfoldable pub blamed : ℕ → Fault Place → Answer
 blamed number (Malformed p) = refused number p.0
 blamed number (Beyond p) = refused 5 p.0
 

@@ -9,7 +9,7 @@ use Rattle.std.specs.Prelude.{ℕ, ◌-◌, ◌≤◌, ◌<◌, List, length}
 use Rattle.std.proofs.Math.Path.{◌≡◌}
 use Rattle.meter.specs.Meter.{Out, spent, halt, done, full}
 use Rattle.types.specs.declared.Place.{Place}
-use Rattle.formula.specs.declared.Fault.TheVariants.{Malformed, Beyond}
+use Rattle.types.specs.declared.Fault.TheVariants.{Malformed, Beyond}
 use Rattle.formula.specs.Tree.{Formula}
 use Rattle.formula.specs.Environment.{Entries, lookup}
 use Rattle.formula.specs.Parse.{parsed, faulty, parse_of}

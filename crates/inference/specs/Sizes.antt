@@ -1,11 +1,9 @@
 -- Row 2 of the table: the sizes. `sized-holds` reads the test as its six conditions; a stream inside them is never too long to be read.
 -- Theorems that rest on what must-fail edits change stand in proofs/Sizes.antt.
-use Rattle.std.specs.Prelude.{ℕ, zero, suc, ◌+◌, ◌*◌, ◌≤◌, ◌≡◌, Bool, true, false, List, [], ◌∷◌, ◌++◌, ltb, length}
+use Rattle.std.specs.Prelude.{ℕ, zero, suc, ◌+◌, ◌*◌, ◌≤◌, ◌≡◌, Bool, true, false, List, [], ◌∷◌, ◌++◌, ltb, length, Option, Some, None}
 use Rattle.std.proofs.Common.{sym, ◌∙◌, ap, subst, le-ltb}
 use Rattle.types.specs.declared.Place.{Place}
 use Rattle.types.specs.Record.{TypeAt, got, malformed, deep, type_at}
-use Rattle.heads.specs.declared.Word.{Word}
-use Rattle.heads.specs.declared.Word.TheVariants as W
 use Rattle.formula.specs.Environment.{Entry, lacks, holds, Entries, lookup}
 use Rattle.heads.specs.Heads.{pick, place}
 use Rattle.types.specs.Limits.{max_bytes, max_depth, max_names, max_capacity, book}
@@ -56,10 +54,10 @@ module _ (names : ℕ) (s : List ℕ) (k : Entries → ℕ → Parsed Entries) (
   short-fresh seen p n e (holds t) = tt
   short-fresh seen p n e lacks = short-typed seen n (type_at max_depth names s e.0)
 
-  short-entry : (seen : Entries) (p : ℕ) (w : Word) → Short (entry_by names s k seen p w)
+  short-entry : (seen : Entries) (p : ℕ) (w : Option (ℕ × Place)) → Short (entry_by names s k seen p w)
   unfolding entry_by
-  short-entry seen p W.Missing = tt
-  short-entry seen p (W.Of n e) = short-fresh seen p n e (lookup seen n)
+  short-entry seen p None = tt
+  short-entry seen p (Some (n, e)) = short-fresh seen p n e (lookup seen n)
 
 short-entries : (turns names : ℕ) (s : List ℕ) (seen : Entries) (p : ℕ) → Short (entries_from turns names s seen p)
 unfolding entries_from

@@ -1,20 +1,13 @@
 -- How a lifting's answers are read: each case as an outcome of `lift_of` of crate `unification`, with the words as they are at exit. Lifting pays nothing.
-use Rattle.std.specs.Prelude.{ℕ}
+use Rattle.std.specs.Prelude.{ℕ, Result, Ok, Err}
 use Rattle.meter.specs.Meter.{M, ret, fail, broken, full}
+use Rattle.types.specs.declared.NodeRef.{NodeRef}
 use Rattle.unification.specs.Arena.{Words}
 use Rattle.unification.specs.Lift.{Raised}
-use Rattle.makers.specs.declared.Made.{Made}
-use Rattle.makers.specs.declared.Made.TheVariants as Ma
-use Rattle.lift.specs.declared.Lifted.{Lifted}
-use Rattle.lift.specs.declared.Lifted.TheVariants as L
+use Rattle.makers.specs.declared.MakeError.{MakeError}
+use Rattle.makers.specs.declared.MakeError.TheVariants.{Full, Broken}
 
-unfoldable pub raised : Lifted → Words → M Words Raised
-raised (L.At t e) ws = ret (t.0, e, ws)
-raised L.Full ws = fail full ws
-raised L.Broken ws = fail broken ws
-
--- the root was made, or was not
-unfoldable pub crowned : Made → ℕ → Lifted
-crowned (Ma.At t) e = L.At t e
-crowned Ma.Full e = L.Full
-crowned Ma.Broken e = L.Broken
+abbrev pub raised : Result (NodeRef × ℕ) MakeError → Words → M Words Raised
+raised (Ok o) ws = ret (o.0.0, o.1, ws)
+raised (Err Full) ws = fail full ws
+raised (Err Broken) ws = fail broken ws

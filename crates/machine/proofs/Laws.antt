@@ -1,35 +1,38 @@
 -- Laws that the proofs of the machine's steps cite: the arena lent as the first words of the work slice, what the unifier's answers do, and the
 -- recursive readers at a number of levels.
-use Rattle.std.proofs.Common.{ℕ, zero, suc, ◌+◌, ◌-◌, ◌*◌, ◌≤◌, ◌<◌, sym, arith, sub-one, length-take-le, List, [], ◌∷◌, ◌++◌, lt-ltb, le-ltb, ne_eqb, ◌≡◌, ap, ap₂, ◌∙◌, refl, eqb, length, take, drop, set, mul-le-mul_right, le_of_lt, drop_of_length-le}
+use Rattle.std.proofs.Common.{ℕ, zero, suc, ◌+◌, ◌-◌, ◌*◌, ◌≤◌, ◌<◌, sym, arith, sub-one, length-take-le, List, [], ◌∷◌, ◌++◌, ◌≡◌, ap, ap₂, ◌∙◌, refl, eqb, length, take, drop, set, mul-le-mul_right, le_of_lt, drop_of_length-le}
+use Prim.Native.Nat.{min}
 use Rattle.std.proofs.Math.Decide.{dec_lt}
 use Rattle.std.proofs.Math.Seq.{take_all, take_at, drop_at, set_out}
-use Rattle.std.proofs.lemmas.List.{take-set-le, drop-set-add}
+use Rattle.std.proofs.lemmas.List.{take-set-le, drop-set-add, drop_more}
 use Rattle.meter.specs.Meter.{Out, M, ret, fail}
-use Rattle.types.specs.declared.NodeRef.{NodeRef}
-use Rattle.types.specs.declared.Name.{Name}
-use Rattle.types.specs.declared.Place.{Place}
-use Rattle.types.specs.declared.Atom.{Atom}
-use Rattle.types.specs.declared.Atom.TheVariants as At
-use Rattle.types.specs.Code.{atom_is}
-use Rattle.heads.specs.declared.DeclHead.{DeclHead}
-use Rattle.heads.specs.declared.DeclHead.TheVariants as De
-use Rattle.types.specs.Record.{reach}
-use Rattle.heads.specs.Heads.{byte_at}
 use Rattle.unification.specs.Arena as A
 use Rattle.unification.specs.Make.{build}
-use Rattle.makers.specs.declared.Made.{Made}
-use Rattle.makers.specs.declared.Made.TheVariants as Ma
-use Rattle.unifier.specs.declared.Unified.{Unified}
-use Rattle.unifier.specs.declared.Unified.TheVariants as Un
+use Rattle.unification.specs.Nodes.{node_is}
+use Rattle.types.specs.declared.NodeRef.{NodeRef}
+use Rattle.types.specs.declared.Node.{Node}
+use Rattle.types.specs.declared.Node.TheVariants.{Unknown, Leaf, Power, Product}
+use Rattle.types.specs.declared.Atom.TheVariants as At
+use Rattle.types.specs.Code.{atom_is}
+use Rattle.makers.specs.declared.MakeError.{MakeError}
+use Rattle.makers.specs.declared.MakeError.TheVariants as Ma
+use Rattle.unifier.specs.declared.Halt.{Halt}
+use Rattle.unifier.specs.declared.Halt.TheVariants as Ha
+use Rattle.unifier.specs.declared.Verdict.{Verdict}
+use Rattle.unifier.specs.declared.Verdict.TheVariants as Ve
+use Rattle.machine.specs.Still.{test_eq, still_items}
+use Rattle.std.specs.Prelude.{Result, Ok, Err, get_or}
 use Rattle.makers.specs.Answers.{made}
 use Rattle.unifier.specs.Answers.{settled}
-use Rattle.machine.specs.declared.State.{State}
+use Rattle.machine.specs.State.{State}
 use Rattle.forms.specs.Forms.{test, then}
+use Rattle.operators.specs.declared.Item.{Item}
 use Rattle.machine.specs.declared.Parts.{Parts}
-use Rattle.machine.specs.Types.{type_head, skip_by, skip_of, atom_of, lift_by, lift_of, note_of, noted_of, notes_by, notes_of, meets_of, annotation_by, claim_of, times_of}
-use Rattle.operators.specs.Operators.{item_at}
+use Rattle.machine.specs.Seen.{machine, made_of, unmade, halted, stop_number}
+use Rattle.machine.specs.declared.Machine.{Machine}
+use Rattle.machine.specs.Types.{atom_of, type_head, skip_by, skip_of, lift_by, lift_of, notes_by, notes_of, times_of}
 use Rattle.machine.specs.Scripts.{item_of, items_of}
-use Rattle.machine.specs.Machine.{Mach, mach, whole, with_st, smaller, stopped_of, grown_of, left_of, grown_by, settled_by, judged_by, list_of, put_of, make_of}
+use Rattle.machine.specs.Machine.{Mach, mach, whole, with_st, on_st, expect_of, stopped_of, grown_of, left_of, grown_by, settled_by, judged_by, list_of, put_of, make_of}
 
 -- ---- numbers
 pub product : (a b : ℕ) → a < 4294967296 → b < 256 → a * b < 1099511627776
@@ -48,14 +51,6 @@ pub record Lent (size n : ℕ) (w last : List ℕ) : Type 0 where
   pub front : take size (last ++ drop n w) ≡ last
   pub behind : drop size (last ++ drop n w) ≡ drop size w
 
-smaller_less : (a b : ℕ) → a < b → smaller a b ≡ a
-unfolding smaller test
-smaller_less a b l = rw (lt-ltb a b l) refl
-
-smaller-rest : (a b : ℕ) → b ≤ a → smaller a b ≡ b
-unfolding smaller test
-smaller-rest a b l = rw (le-ltb a b l) refl
-
 lent_less : (size : ℕ) (w last : List ℕ) → size < length w → length last ≡ length (take size w) → Lent size size w last
 lent_less size w last l e =
     let k : length last ≡ size = e ∙ length-take-le size w (le_of_lt l) in
@@ -72,63 +67,75 @@ lent-whole size w last l e =
       behind = ap (drop size) f ∙ drop_of_length-le last {i = size} (omega (arith, k, l)) ∙ sym (drop_of_length-le w {i = size} l);
     }
 
-lent_by : (size n : ℕ) (w last : List ℕ) → Dec (size < length w) → n ≡ smaller size (length w) → length last ≡ length (take n w) → Lent size n w last
+lent_by : (size n : ℕ) (w last : List ℕ) → Dec (size < length w) → n ≡ min (length w) size → length last ≡ length (take n w) → Lent size n w last
 lent_by size n w last (yes l) e h =
-    let k : n ≡ size = e ∙ smaller_less size (length w) l in
+    let k : n ≡ size = omega arith in
     rw k (lent_less size w last l (rw (sym k) h))
 lent_by size n w last (no l) e h =
     let g : length w ≤ size = omega arith in
-    let k : n ≡ length w = e ∙ smaller-rest size (length w) g in
+    let k : n ≡ length w = omega arith in
     rw k (lent-whole size w last g (rw (sym k) h))
 
-pub lent : (size n : ℕ) (w last : List ℕ) → n ≡ smaller size (length w) → length last ≡ length (take n w) → Lent size n w last
+pub lent : (size n : ℕ) (w last : List ℕ) → n ≡ min (length w) size → length last ≡ length (take n w) → Lent size n w last
 lent size n w last e h = lent_by size n w last (dec_lt size (length w)) e h
 
-pub lent_push : (r : Made) (size n count : ℕ) (w last : List ℕ) (d e : A.Node) → Lent size n w last → made r last ≡ build (take n w) count d → d ≡ e
-    → (made r (take size (last ++ drop n w)) ≡ build (take size w) count e) × (drop size (last ++ drop n w) ≡ drop size w)
-lent_push r size n count w last d e h k q = (ap (made r) h.front ∙ k ∙ ap₂ (λ (l : List ℕ) (x : A.Node). build l count x) h.part q, h.behind)
+pub lent_push : (r : Result NodeRef MakeError) (size n count : ℕ) (w last : List ℕ) (d : A.Node) → Lent size n w last → made r last ≡ build (take n w) count d
+    → (made r (take size (last ++ drop n w)) ≡ build (take size w) count d) × (drop size (last ++ drop n w) ≡ drop size w)
+lent_push r size n count w last d h k = (ap (made r) h.front ∙ k ∙ ap (λ (l : List ℕ). build l count d) h.part, h.behind)
 
-pub lent-unify : (r : Unified) (size n count a b budget : ℕ) (w last : List ℕ) → Lent size n w last → settled r last ≡ A.unify count (take n w, a, b) budget
-    → (settled r (take size (last ++ drop n w)) ≡ A.unify count (take size w, a, b) budget) × (drop size (last ++ drop n w) ≡ drop size w)
-lent-unify r size n count a b budget w last h k = (ap (settled r) h.front ∙ k ∙ ap (λ (l : List ℕ). A.unify count (l, a, b) budget) h.part, h.behind)
+pub lent-unify : (r : Result Verdict Halt) (left size n count a b budget : ℕ) (w last : List ℕ) → Lent size n w last → settled r left last ≡ A.unify count (take n w, a, b) budget
+    → (settled r left (take size (last ++ drop n w)) ≡ A.unify count (take size w, a, b) budget) × (drop size (last ++ drop n w) ≡ drop size w)
+lent-unify r left size n count a b budget w last h k = (ap (settled r left) h.front ∙ k ∙ ap (λ (l : List ℕ). A.unify count (l, a, b) budget) h.part, h.behind)
 
--- ---- what the unifier's answers do
-module _ (size : ℕ) (v r : State) (w w' out : List ℕ) (b : drop size w' ≡ drop size w) where
-  pub made_at : (t : NodeRef) (m : M (List ℕ) (ℕ × List ℕ)) → made (Ma.At t) (take size w') ≡ m → r ≡ grown_of t.0 v → mach size r w' out ≡ grown_by (m 0) (mach size v w out)
-  unfolding grown_by then ret
-  made_at t m e h = ap₂ (λ (x : State) (l : List ℕ). whole x (take size w') l out) h b ∙ ap (λ (f : M (List ℕ) (ℕ × List ℕ)). grown_by (f 0) (mach size v w out)) e
+-- ---- what the unifier's answers do: m is the machine before, w the work slice after
+abbrev pub made_next : Result NodeRef MakeError → Mach → Mach
+made_next (Ok t) m = on_st (grown_of t.0) m
+made_next (Err e) m = on_st (stopped_of (stop_number (unmade e))) m
 
-  pub made_full : (m : M (List ℕ) (ℕ × List ℕ)) → made Ma.Full (take size w') ≡ m → r ≡ stopped_of 6 v → mach size r w' out ≡ grown_by (m 0) (mach size v w out)
-  unfolding grown_by then fail
-  made_full m e h = ap₂ (λ (x : State) (l : List ℕ). whole x (take size w') l out) h b ∙ ap (λ (f : M (List ℕ) (ℕ × List ℕ)). grown_by (f 0) (mach size v w out)) e
+by_made : (x : Result NodeRef MakeError) (a c b d out : List ℕ) (v : State) → d ≡ b → grown_by (made x c 0) (whole v a b out) ≡ made_next x (whole v c d out)
+unfolding grown_by then ret fail
+by_made (Ok t) a c b d out v e = ap (λ (l : List ℕ). whole (grown_of t.0 v) c l out) (sym e)
+by_made (Err Ma.Full) a c b d out v e = ap (λ (l : List ℕ). whole (stopped_of 6 v) c l out) (sym e)
+by_made (Err Ma.Broken) a c b d out v e = ap (λ (l : List ℕ). whole (stopped_of 2 v) c l out) (sym e)
 
-  pub made_broken : (m : M (List ℕ) (ℕ × List ℕ)) → made Ma.Broken (take size w') ≡ m → r ≡ stopped_of 2 v → mach size r w' out ≡ grown_by (m 0) (mach size v w out)
-  unfolding grown_by then fail
-  made_broken m e h = ap₂ (λ (x : State) (l : List ℕ). whole x (take size w') l out) h b ∙ ap (λ (f : M (List ℕ) (ℕ × List ℕ)). grown_by (f 0) (mach size v w out)) e
+made_by : (node : Node) (m : Mach) → m.st.stop ≡ 0 → made_of node m ≡ grown_by (build m.arena m.st.nodes (node_is node) 0) m
+unfolding make_of atom_of atom_is
+made_by Unknown m h = test_eq m.st.stop 0 _ _ h
+made_by (Leaf At.Bool) m h = test_eq m.st.stop 0 _ _ h
+made_by (Leaf At.Integer) m h = test_eq m.st.stop 0 _ _ h
+made_by (Leaf (At.Given x)) m h = test_eq m.st.stop 0 _ _ h
+made_by (Power x) m h = test_eq m.st.stop 0 _ _ h
+made_by (Product x y) m h = test_eq m.st.stop 0 _ _ h
 
-  pub settled-done : (l p : ℕ) (o : Out (List ℕ) A.Answer) → settled (Un.Done l) (take size w') ≡ o → r ≡ left_of l v → mach size r w' out ≡ settled_by o p (mach size v w out)
-  unfolding settled_by judged_by then
-  settled-done l p o e h = ap₂ (λ (x : State) (l : List ℕ). whole x (take size w') l out) h b ∙ ap (λ (x : Out (List ℕ) A.Answer). settled_by x p (mach size v w out)) e
+pub makes : (m : Machine) (node : Node) (x : Result NodeRef MakeError) (w : List ℕ) → drop m.size w ≡ drop m.size m.work.now → made x (take m.size w) ≡ build (take m.size m.work.now) m.nodes (node_is node)
+    → made_of node (machine m) ≡ made_next x (mach m.size (machine m).st w m.output.now)
+makes m node x w d e =
+    made_by node (machine m) refl ∙ ap (λ (f : M (List ℕ) (ℕ × List ℕ)). grown_by (f 0) (machine m)) (sym e)
+    ∙ by_made x (take m.size m.work.now) (take m.size w) (drop m.size m.work.now) (drop m.size w) m.output.now (machine m).st d
 
-  pub settled-spent : (p : ℕ) (o : Out (List ℕ) A.Answer) → settled Un.Spent (take size w') ≡ o → r ≡ stopped_of 7 v → mach size r w' out ≡ settled_by o p (mach size v w out)
-  unfolding settled_by then
-  settled-spent p o e h = ap₂ (λ (x : State) (l : List ℕ). whole x (take size w') l out) h b ∙ ap (λ (x : Out (List ℕ) A.Answer). settled_by x p (mach size v w out)) e
+abbrev pub verdict_next : Verdict → ℕ → Mach → Mach
+verdict_next Ve.Done p m = m
+verdict_next Ve.Mismatch p m = list_of 0 p 0xFFFF m
+verdict_next Ve.Circular p m = list_of 1 p 0xFFFF m
 
-  pub settled_broken : (p : ℕ) (o : Out (List ℕ) A.Answer) → settled Un.Broken (take size w') ≡ o → r ≡ stopped_of 2 v → mach size r w' out ≡ settled_by o p (mach size v w out)
-  unfolding settled_by then
-  settled_broken p o e h = ap₂ (λ (x : State) (l : List ℕ). whole x (take size w') l out) h b ∙ ap (λ (x : Out (List ℕ) A.Answer). settled_by x p (mach size v w out)) e
+abbrev pub settled_next : Result Verdict Halt → ℕ → ℕ → Mach → Mach
+settled_next (Ok v) l p m = verdict_next v p (on_st (left_of l) m)
+settled_next (Err h) l p m = on_st (stopped_of (stop_number (halted h))) m
 
--- a problem listed: x is the state after it, and q the output
-module _ (size : ℕ) (v r x : State) (w w' out q : List ℕ) (b : drop size w' ≡ drop size w) where
-  pub settled_mismatch : (l p : ℕ) (o : Out (List ℕ) A.Answer) → settled (Un.Mismatch l) (take size w') ≡ o → r ≡ left_of l v
-      → whole x (take size w') (drop size w') q ≡ list_of 0 p 0xFFFF (whole r (take size w') (drop size w') out) → mach size x w' q ≡ settled_by o p (mach size v w out)
-  unfolding settled_by judged_by then
-  settled_mismatch l p o e h k = k ∙ ap₂ (λ (y : State) (z : List ℕ). list_of 0 p 0xFFFF (whole y (take size w') z out)) h b ∙ ap (λ (y : Out (List ℕ) A.Answer). settled_by y p (mach size v w out)) e
+by_settled : (x : Result Verdict Halt) (r p : ℕ) (a c b d out : List ℕ) (v : State) → d ≡ b → settled_by (settled x r c) p (whole v a b out) ≡ settled_next x r p (whole v c d out)
+unfolding settled_by judged_by then
+by_settled (Ok Ve.Done) r p a c b d out v e = ap (λ (l : List ℕ). whole (left_of r v) c l out) (sym e)
+by_settled (Ok Ve.Mismatch) r p a c b d out v e = ap (λ (l : List ℕ). list_of 0 p 0xFFFF (whole (left_of r v) c l out)) (sym e)
+by_settled (Ok Ve.Circular) r p a c b d out v e = ap (λ (l : List ℕ). list_of 1 p 0xFFFF (whole (left_of r v) c l out)) (sym e)
+by_settled (Err Ha.Spent) r p a c b d out v e = ap (λ (l : List ℕ). whole (stopped_of 7 v) c l out) (sym e)
+by_settled (Err Ha.Broken) r p a c b d out v e = ap (λ (l : List ℕ). whole (stopped_of 2 v) c l out) (sym e)
 
-  pub settled_circular : (l p : ℕ) (o : Out (List ℕ) A.Answer) → settled (Un.Circular l) (take size w') ≡ o → r ≡ left_of l v
-      → whole x (take size w') (drop size w') q ≡ list_of 1 p 0xFFFF (whole r (take size w') (drop size w') out) → mach size x w' q ≡ settled_by o p (mach size v w out)
-  unfolding settled_by judged_by then
-  settled_circular l p o e h k = k ∙ ap₂ (λ (y : State) (z : List ℕ). list_of 1 p 0xFFFF (whole y (take size w') z out)) h b ∙ ap (λ (y : Out (List ℕ) A.Answer). settled_by y p (mach size v w out)) e
+pub expects : (m : Machine) (a b p : ℕ) (x : Result Verdict Halt) (left : ℕ) (w : List ℕ) → drop m.size w ≡ drop m.size m.work.now
+    → settled x left (take m.size w) ≡ A.unify m.nodes (take m.size m.work.now, a, b) m.budget → expect_of a b p (machine m) ≡ settled_next x left p (mach m.size (machine m).st w m.output.now)
+unfolding expect_of test
+expects m a b p x left w d e =
+    ap (λ (o : Out (List ℕ) A.Answer). settled_by o p (machine m)) (sym e)
+    ∙ by_settled x left p (take m.size m.work.now) (take m.size w) (drop m.size m.work.now) (drop m.size w) m.output.now (machine m).st d
 
 -- ---- the book
 pub put-inside : (size i x : ℕ) (st : State) (w out : List ℕ) → mach size st (set w (size + i) x) out ≡ put_of i x (mach size st w out)
@@ -138,87 +145,56 @@ put-inside size i x st w out = ap₂ (λ (a b : List ℕ). whole st a b out) (ta
 pub put-outside : (size i x : ℕ) (st : State) (w out : List ℕ) → length w ≤ size + i → mach size st w out ≡ put_of i x (mach size st w out)
 put-outside size i x st w out l = ap (λ (z : List ℕ). mach size st z out) (sym (set_out w (size + i) x l)) ∙ put-inside size i x st w out
 
--- ---- a match: one law for each way that the code can go
-pub atom-bool : (a : Atom) (m x : Mach) → a ≡ At.Bool → x ≡ make_of 0x40 0 0 m → x ≡ atom_of (atom_is a) m
-unfolding atom_of atom_is
-atom-bool a m x e h = rw e h
-
-pub atom-int : (a : Atom) (m x : Mach) → a ≡ At.Integer → x ≡ make_of 0x41 0 0 m → x ≡ atom_of (atom_is a) m
-unfolding atom_of atom_is
-atom-int a m x e h = rw e h
-
-pub atom-given : (a : Atom) (n : Name) (m x : Mach) → a ≡ At.Given n → x ≡ make_of 0x42 n.0 0 m → x ≡ atom_of (atom_is a) m
-unfolding atom_of atom_is
-atom-given a n m x e h = rw e h
-
-pub noted-bool : (a : Atom) (env : List ℕ) (p : ℕ) (m x : Mach) → a ≡ At.Bool → x ≡ m → x ≡ noted_of env p (atom_is a) m
-unfolding noted_of atom_is
-noted-bool a env p m x e h = rw e h
-
-pub noted-int : (a : Atom) (env : List ℕ) (p : ℕ) (m x : Mach) → a ≡ At.Integer → x ≡ m → x ≡ noted_of env p (atom_is a) m
-unfolding noted_of atom_is
-noted-int a env p m x e h = rw e h
-
-pub noted-given : (a : Atom) (n : Name) (env : List ℕ) (p : ℕ) (m x : Mach) → a ≡ At.Given n → x ≡ note_of env n.0 p m → x ≡ noted_of env p (atom_is a) m
-unfolding noted_of atom_is
-noted-given a n env p m x e h = rw e h
-
-pub claim-plain : (h : DeclHead) (q : Place) (s env : List ℕ) (r p : ℕ) (m x : Mach) → h ≡ De.Plain q → x ≡ m → x ≡ claim_of s env h r p m
-unfolding claim_of
-claim-plain h q s env r p m x e k = rw e k
-
-pub claim-typed : (h : DeclHead) (q : Place) (s env : List ℕ) (r p : ℕ) (m x : Mach) → h ≡ De.Typed q → x ≡ meets_of s r p m → x ≡ claim_of s env h r p m
-unfolding claim_of
-claim-typed h q s env r p m x e k = rw e k
-
-pub claim-annotated : (h : DeclHead) (q : Place) (s env : List ℕ) (r p : ℕ) (m x : Mach) → h ≡ De.Annotated q
-    → x ≡ then (byte_at (reach s) m.st.at) (λ b. annotation_by s env r p b m) → x ≡ claim_of s env h r p m
-unfolding claim_of
-claim-annotated h q s env r p m x e k = rw e k
-
 -- ---- the recursive readers, at a number of levels
-pub by_skip : (l : ℕ) (s : List ℕ) (v x : State)
-    → x ≡ test (eqb v.stop 0) (λ _. test (eqb l 0) (λ _. stopped_of 2 v) (λ _. then (type_head s v.at.0) λ h. skip_by (λ y. skip_of (l - 1) s y) h v)) (λ _. v) → x ≡ skip_of l s v
-unfolding skip_of test
-by_skip zero s v x h = h
-by_skip (suc l) s v x h = rw (sub-one, ne_eqb (suc l) 0 (λ e. omega arith)) at h
+pub skip_none : (l : ℕ) (s : List ℕ) (v : State) → l ≡ 0 → skip_of l s v ≡ test (eqb v.stop 0) (λ _. stopped_of 2 v) (λ _. v)
+unfolding skip_of
+skip_none l s v e = rw e
 
-pub by-lift : (l : ℕ) (s : List ℕ) (m x : Mach)
-    → x ≡ test (eqb m.st.stop 0) (λ _. test (eqb l 0) (λ _. then (stopped_of 2 m.st) λ v. with_st v m) (λ _. then (type_head s m.st.at.0) λ h. lift_by (λ y. lift_of (l - 1) s y) h m)) (λ _. m) → x ≡ lift_of l s m
-unfolding lift_of test
-by-lift zero s m x h = h
-by-lift (suc l) s m x h = rw (sub-one, ne_eqb (suc l) 0 (λ e. omega arith)) at h
+pub skip_more : (l : ℕ) (s : List ℕ) (v : State) → (l ≡ 0 → ⊥) → skip_of l s v ≡ test (eqb v.stop 0) (λ _. then (type_head s v.at.0) λ h. skip_by (λ y. skip_of (l - 1) s y) h v) (λ _. v)
+unfolding skip_of
+skip_more zero s v h = absurd (h refl)
+skip_more (suc l) s v h = rw sub-one
 
-pub by-notes : (l : ℕ) (s env : List ℕ) (p : ℕ) (m x : Mach)
-    → x ≡ test (eqb m.st.stop 0) (λ _. test (eqb l 0) (λ _. then (stopped_of 2 m.st) λ v. with_st v m) (λ _. then (type_head s m.st.at.0) λ h. notes_by (λ y. notes_of (l - 1) s env p y) env p h m)) (λ _. m) → x ≡ notes_of l s env p m
-unfolding notes_of test
-by-notes zero s env p m x h = h
-by-notes (suc l) s env p m x h = rw (sub-one, ne_eqb (suc l) 0 (λ e. omega arith)) at h
+pub lift_none : (l : ℕ) (s : List ℕ) (m : Mach) → l ≡ 0 → lift_of l s m ≡ test (eqb m.st.stop 0) (λ _. then (stopped_of 2 m.st) λ v. with_st v m) (λ _. m)
+unfolding lift_of
+lift_none l s m e = rw e
 
--- ---- loops
-pub times_none : (f : Mach → Mach) (n : ℕ) (m : Mach) → n ≡ 0 → times_of f n m ≡ m
+pub lift_more : (l : ℕ) (s : List ℕ) (m : Mach) → (l ≡ 0 → ⊥) → lift_of l s m ≡ test (eqb m.st.stop 0) (λ _. then (type_head s m.st.at.0) λ h. lift_by (λ y. lift_of (l - 1) s y) h m) (λ _. m)
+unfolding lift_of
+lift_more zero s m h = absurd (h refl)
+lift_more (suc l) s m h = rw sub-one
+
+pub notes_none : (l : ℕ) (s env : List ℕ) (p : ℕ) (m : Mach) → l ≡ 0 → notes_of l s env p m ≡ test (eqb m.st.stop 0) (λ _. then (stopped_of 2 m.st) λ v. with_st v m) (λ _. m)
+unfolding notes_of
+notes_none l s env p m e = rw e
+
+pub notes_more : (l : ℕ) (s env : List ℕ) (p : ℕ) (m : Mach) → (l ≡ 0 → ⊥)
+    → notes_of l s env p m ≡ test (eqb m.st.stop 0) (λ _. then (type_head s m.st.at.0) λ h. notes_by (λ y. notes_of (l - 1) s env p y) env p h m) (λ _. m)
+unfolding notes_of
+notes_more zero s env p m h = absurd (h refl)
+notes_more (suc l) s env p m h = rw sub-one
+
+pub ruleset levels = (skip_none, skip_more, lift_none, lift_more, notes_none, notes_more)
+
+-- ---- loops, by the turns that are left: f is what a turn does to m
+pub times_end : (f : Mach → Mach) (n i : ℕ) (m : Mach) → n ≤ i → times_of f (n - i) m ≡ m
 unfolding times_of
-times_none f n m e = rw e
+times_end f n i m l = let e : n - i ≡ 0 = omega arith in rw e
 
-pub times_more : (f : Mach → Mach) (n : ℕ) (m : Mach) → (n ≡ 0 → ⊥) → times_of f n m ≡ times_of f (n - 1) (f m)
+pub times_turn : (f : Mach → Mach) (n i : ℕ) (m : Mach) → i < n → times_of f (n - i) m ≡ times_of f (n - (i + 1)) (f m)
 unfolding times_of
-times_more f zero m h = absurd (h refl)
-times_more f (suc n) m h = rw sub-one
+times_turn f n i m l = let e : n - i ≡ suc (n - (i + 1)) = omega arith in rw e
 
--- one turn of a loop that takes a step n times
-pub by-times : (f : Mach → Mach) (n : ℕ) (m x z : Mach) → (n ≡ 0 → ⊥) → x ≡ f m → times_of f n m ≡ z → times_of f (n - 1) x ≡ z
-by-times f n m x z h e q = ap (times_of f (n - 1)) e ∙ sym (times_more f n m h) ∙ q
-
--- one turn of a script's playing: item i, of those up to u
-pub items-none : (p : Parts) (u i : ℕ) (m : Mach) → u ≤ i → items_of p (u - i) i m ≡ m
+pub items_end : (p : Parts) (its : List Item) (i : ℕ) (m : Mach) → length its ≤ i → items_of p (drop i its) m ≡ m
 unfolding items_of
-items-none p u i m l = let e : u - i ≡ 0 = omega arith in rw e
+items_end p its i m l = ap (λ (k : List Item). items_of p k m) (drop_of_length-le its {i = i} l)
 
-items-suc : (p : Parts) (n k i : ℕ) (m : Mach) → n ≡ suc k → items_of p n i m ≡ items_of p k (i + 1) (then (item_at i) λ it. item_of it p m)
+pub items_turn : (p : Parts) (its : List Item) (i : ℕ) (d : Item) (m : Mach) → i < length its → items_of p (drop i its) m ≡ items_of p (drop (i + 1) its) (item_of (get_or its i d) p m)
 unfolding items_of
-items-suc p n k i m e = rw e
+items_turn p its i d m l = ap (λ (k : List Item). items_of p k m) (drop_more its i d l)
 
-pub items_more : (p : Parts) (u i : ℕ) (m x z : Mach) → i < u → x ≡ then (item_at i) (λ it. item_of it p m) → items_of p (u - i) i m ≡ z → items_of p (u - (i + 1)) (i + 1) x ≡ z
-items_more p u i m x z l e q =
-    let k : u - i ≡ suc (u - (i + 1)) = omega arith in
-    ap (items_of p (u - (i + 1)) (i + 1)) e ∙ sym (items-suc p (u - i) (u - (i + 1)) i m k) ∙ q
+-- a script that stops at an item
+pub items_stop : (p : Parts) (its : List Item) (i : ℕ) (d : Item) (m x z : Mach) → i < length its → x ≡ item_of (get_or its i d) p m → (x.st.stop ≡ 0 → ⊥) → items_of p (drop i its) m ≡ z → z ≡ x
+items_stop p its i d m x z l e h q = sym q ∙ items_turn p its i d m l ∙ ap (items_of p (drop (i + 1) its)) (sym e) ∙ still_items p (drop (i + 1) its) x h
+
+pub ruleset turns = (times_end, times_turn, items_end, items_turn)

@@ -1,11 +1,11 @@
 -- The walk's machine: what each step does to the state, the arena, the book and the output.
 -- A specification is put together from two forms, `then` and `test`; crate `forms` has their laws. A stopped state passes through every step.
-use Rattle.std.specs.Prelude.{ℕ, ◌+◌, ◌-◌, ◌*◌, ◌/◌, ◌%◌, true, List, length, get_or, take, drop, set, eqb, ltb, leb}
+use Rattle.std.specs.Prelude.{ℕ, ◌+◌, ◌-◌, ◌*◌, ◌/◌, ◌%◌, true, false, List, length, get_or, take, drop, set, eqb, ltb, leb}
 use Rattle.types.specs.Limits.{max_slots, max_names, max_opened}
 use Rattle.meter.specs.Meter.{Out, spent, halt, done, broken, full}
 use Rattle.unification.specs.Arena as A
 use Rattle.unification.specs.Make.{build}
-use Rattle.machine.specs.declared.State.{State}
+use Rattle.machine.specs.State.{State}
 use Rattle.forms.specs.Forms.{test, then}
 
 -- the state, the arena, the book behind it, and the output
@@ -26,11 +26,20 @@ whole v a b out = record { st = v; arena = a; book = b; out = out }
 abbrev pub with_st : State → Mach → Mach
 with_st v m = record { st = v; arena = m.arena; book = m.book; out = m.out }
 
+-- a step of the state
+abbrev pub on_st : (State → State) → Mach → Mach
+on_st f m = with_st (f m.st) m
+
 abbrev pub with_arena : List ℕ → Mach → Mach
 with_arena ws m = record { st = m.st; arena = ws; book = m.book; out = m.out }
 
 unfoldable pub smaller : ℕ → ℕ → ℕ
 smaller a b = test (ltb a b) (λ _. a) (λ _. b)
+
+-- the state that a walk begins with
+unfoldable pub start_of : ℕ → State
+start_of budget =
+    record { at = record { 0 = 0 }; from = record { 0 = 0 }; last = record { 0 = 0 }; nodes = 0; budget = budget; slots = 0; met = 0; bound = 0; bytes = 0; over = false; stop = 0 }
 
 -- ---- steps on the state alone
 -- the walk stops with a number

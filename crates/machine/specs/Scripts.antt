@@ -1,10 +1,16 @@
 -- What playing a script does.
-use Rattle.std.specs.Prelude.{ℕ, zero, suc, ◌+◌, ◌-◌, eqb, ltb}
+use Rattle.std.specs.Prelude.{ℕ, ◌+◌, ltb, List, [], ◌∷◌}
 use Rattle.types.specs.declared.NodeRef.{NodeRef}
 use Rattle.types.specs.declared.Place.{Place}
+use Rattle.operators.specs.declared.Script.{Script}
 use Rattle.operators.specs.declared.Item.{Item}
-use Rattle.operators.specs.Operators.{script_at, item_at}
-use Rattle.machine.specs.declared.State.{State}
+use Rattle.operators.specs.declared.Item.TheVariants.{Unknown, Boolean, Integer, Power, Product, Equal}
+use Rattle.operators.specs.declared.Operand.{Operand}
+use Rattle.operators.specs.declared.Operand.TheVariants.{Left, Right, Own}
+use Rattle.operators.specs.declared.Seat.{Seat}
+use Rattle.operators.specs.declared.Seat.TheVariants.{Whole, Near, Far}
+use Rattle.operators.specs.Scripts.{items_in, given_by}
+use Rattle.machine.specs.State.{State}
 use Rattle.machine.specs.declared.Parts.{Parts}
 use Rattle.forms.specs.Forms.{test, then}
 use Rattle.machine.specs.Machine.{Mach, with_st, gave_of, make_of, expect_of}
@@ -12,40 +18,32 @@ use Rattle.machine.specs.Machine.{Mach, with_st, gave_of, make_of, expect_of}
 unfoldable pub parts_of : ℕ → ℕ → ℕ → ℕ → ℕ → State → Parts
 parts_of l pl r pr p v = record { left = record { 0 = l }; right = record { 0 = r }; place = record { 0 = p }; near = record { 0 = pl }; far = record { 0 = pr }; base = v.nodes }
 
--- an operand: none, a part, or the script's own node
-unfoldable pub chosen_of : ℕ → Parts → NodeRef
-chosen_of code p =
-    test (eqb code 0) (λ _. record { 0 = 0 })
-    (λ _. test (eqb code 1) (λ _. p.left)
-    (λ _. test (eqb code 2) (λ _. p.right)
-    (λ _. test (ltb p.base 65536) (λ _. record { 0 = p.base + (code - 3) })
-    (λ _. record { 0 = 0 }))))
+-- an operand: a part, or the script's own node
+unfoldable pub chosen_of : Operand → Parts → NodeRef
+chosen_of Left p = p.left
+chosen_of Right p = p.right
+chosen_of (Own j) p = test (ltb p.base 65536) (λ _. record { 0 = p.base + j }) (λ _. record { 0 = 0 })
 
-unfoldable pub place_of : ℕ → Parts → Place
-place_of code p =
-    test (eqb code 0) (λ _. p.place)
-    (λ _. test (eqb code 1) (λ _. p.near)
-    (λ _. p.far))
+unfoldable pub place_of : Seat → Parts → Place
+place_of Whole p = p.place
+place_of Near p = p.near
+place_of Far p = p.far
 
--- one item: a comparison, or a node
+-- one item: a node, or a comparison
 unfoldable pub item_of : Item → Parts → Mach → Mach
-item_of it p m =
-    then (chosen_of it.x p) λ x.
-    then (chosen_of it.y p) λ y.
-    test (eqb it.kind 1)
-    (λ _. then (place_of it.at p) λ q. expect_of x.0 y.0 q.0 m)
-    (λ _. make_of it.kind x.0 y.0 m)
+item_of Unknown p m = make_of 0x4E 0 0 m
+item_of Boolean p m = make_of 0x40 0 0 m
+item_of Integer p m = make_of 0x41 0 0 m
+item_of (Power x) p m = then (chosen_of x p) λ a. make_of 0x43 a.0 0 m
+item_of (Product x y) p m = then (chosen_of x p) λ a. then (chosen_of y p) λ b. make_of 0x44 a.0 b.0 m
+item_of (Equal x y seat) p m = then (chosen_of x p) λ a. then (chosen_of y p) λ b. then (place_of seat p) λ q. expect_of a.0 b.0 q.0 m
 
--- n items from the i-th on
-unfoldable pub items_of : Parts → ℕ → ℕ → Mach → Mach
-items_of p zero i m = m
-items_of p (suc n) i m = items_of p n (i + 1) (then (item_at i) λ it. item_of it p m)
+unfoldable pub items_of : Parts → List Item → Mach → Mach
+items_of p [] m = m
+items_of p (it ∷ its) m = items_of p its (item_of it p m)
 
-unfoldable pub play_of : ℕ → Parts → Mach → Mach
-play_of n p m =
-    then (script_at n) λ s.
-    then s.until λ u.
-    then s.from λ f.
-    then (items_of p (u - f) f m) λ a.
-    then (chosen_of s.gives p) λ g.
+unfoldable pub play_of : Script → Parts → Mach → Mach
+play_of s p m =
+    then (items_of p (items_in s) m) λ a.
+    then (chosen_of (given_by s) p) λ g.
     then (gave_of g.0 a.st) λ v. with_st v a

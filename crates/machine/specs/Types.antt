@@ -1,17 +1,14 @@
 -- Types in the stream, names, notes and declarations, as the machine meets them. A record is known by its head, the same that the test of form
 -- reads. A type is read level by level: `left` levels are allowed.
-use Rattle.std.specs.Prelude.{ℕ, zero, suc, ◌-◌, List, drop, eqb, ltb}
+use Rattle.std.specs.Prelude.{Option, Some, None, ℕ, zero, suc, ◌-◌, List, drop, eqb, ltb}
+use Rattle.types.specs.declared.Place.{Place}
 use Rattle.types.specs.Limits.{levels, max_names}
 use Rattle.types.specs.Ty.{Atom, bool, int, given}
 use Rattle.types.specs.Record.{Head, atomic, power, product, wrong, head_of, reach}
-use Rattle.heads.specs.declared.Byte.{Byte}
-use Rattle.heads.specs.declared.Byte.TheVariants.{Missing, Of}
 use Rattle.heads.specs.declared.DeclHead.{DeclHead}
 use Rattle.heads.specs.declared.DeclHead.TheVariants.{Plain, Typed, Annotated}
-use Rattle.heads.specs.declared.DeclAt.{DeclAt}
-use Rattle.heads.specs.declared.DeclAt.TheVariants.{Wrong, Is}
 use Rattle.heads.specs.Heads.{byte_at, decl_head, decl_end}
-use Rattle.machine.specs.declared.State.{State}
+use Rattle.machine.specs.State.{State}
 use Rattle.forms.specs.Forms.{test, then}
 use Rattle.machine.specs.Machine.{Mach, with_st, cell, word_of, stopped_of, placed_of, passed_of, gave_of, enter_of, list_of, make_of, expect_of, leave_of, remember_of, enrol_of, push_bound_of}
 
@@ -112,21 +109,21 @@ spelled_of s env x q p m =
     meets_of s x p (with_st v a)
 
 -- an ascription by its first byte: 4F stands for what is no type, and is listed
-unfoldable pub ascription_by : List ℕ → List ℕ → ℕ → ℕ → Byte → Mach → Mach
-ascription_by s env x p Missing m = then (stopped_of 2 m.st) λ v. with_st v m
-ascription_by s env x p (Of k e) m =
-    test (eqb k 0x4F)
-    (λ _. then (list_of 0 m.st.at.0 0xFFFF m) λ a. then (placed_of e.0 a.st) λ v. with_st v a)
+unfoldable pub ascription_by : List ℕ → List ℕ → ℕ → ℕ → Option (ℕ × Place) → Mach → Mach
+ascription_by s env x p None m = then (stopped_of 2 m.st) λ v. with_st v m
+ascription_by s env x p (Some b) m =
+    test (eqb b.0 0x4F)
+    (λ _. then (list_of 0 m.st.at.0 0xFFFF m) λ a. then (placed_of b.1.0 a.st) λ v. with_st v a)
     (λ _. spelled_of s env x m.st.at.0 p m)
 
 unfoldable pub ascription_of : List ℕ → List ℕ → ℕ → ℕ → Mach → Mach
 ascription_of s env x p m = then (byte_at (reach s) m.st.at) λ b. ascription_by s env x p b m
 
 -- an annotation by its first byte: 4F says nothing
-unfoldable pub annotation_by : List ℕ → List ℕ → ℕ → ℕ → Byte → Mach → Mach
-annotation_by s env x p Missing m = then (stopped_of 2 m.st) λ v. with_st v m
-annotation_by s env x p (Of k e) m =
-    test (eqb k 0x4F) (λ _. then (placed_of e.0 m.st) λ v. with_st v m)
+unfoldable pub annotation_by : List ℕ → List ℕ → ℕ → ℕ → Option (ℕ × Place) → Mach → Mach
+annotation_by s env x p None m = then (stopped_of 2 m.st) λ v. with_st v m
+annotation_by s env x p (Some b) m =
+    test (eqb b.0 0x4F) (λ _. then (placed_of b.1.0 m.st) λ v. with_st v m)
     (λ _. spelled_of s env x p p m)
 
 -- what a declaration's head says of its reference
@@ -135,9 +132,9 @@ claim_of s env (Plain e) x p m = m
 claim_of s env (Typed e) x p m = meets_of s x p m
 claim_of s env (Annotated e) x p m = then (byte_at (reach s) m.st.at) λ b. annotation_by s env x p b m
 
-unfoldable pub declaration_by : List ℕ → List ℕ → DeclAt → Mach → Mach
-declaration_by s env Wrong m = then (stopped_of 2 m.st) λ v. with_st v m
-declaration_by s env (Is h) m =
+unfoldable pub declaration_by : List ℕ → List ℕ → Option DeclHead → Mach → Mach
+declaration_by s env None m = then (stopped_of 2 m.st) λ v. with_st v m
+declaration_by s env (Some h) m =
     then (enter_of m.st) λ e.
     then (decl_end h) λ q.
     then (placed_of q.0 e) λ v.

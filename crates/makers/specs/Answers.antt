@@ -1,14 +1,15 @@
 -- How a maker's answer is read: as an outcome of the definitions of crate `unification`.
 --
 -- `halt full` is number 6, `halt broken` 2. The reading takes the words as they are at exit, so that one equation says answer and words.
-use Rattle.std.specs.Prelude.{ℕ}
+use Rattle.std.specs.Prelude.{ℕ, Result, Ok, Err}
 use Rattle.meter.specs.Meter.{broken, full, M, ret, fail}
 use Rattle.unification.specs.Arena as S
-use Rattle.makers.specs.declared.Made.{Made}
-use Rattle.makers.specs.declared.Made.TheVariants as Ma
+use Rattle.types.specs.declared.NodeRef.{NodeRef}
+use Rattle.makers.specs.declared.MakeError.{MakeError}
+use Rattle.makers.specs.declared.MakeError.TheVariants as Ma
 
 -- a maker pays nothing: the outcome at every budget
-abbrev pub made : Made → S.Words → M S.Words (ℕ × S.Words)
-made (Ma.At t) ws = ret (t.0, ws)
-made Ma.Full ws = fail full ws
-made Ma.Broken ws = fail broken ws
+abbrev pub made : Result NodeRef MakeError → S.Words → M S.Words (ℕ × S.Words)
+made (Ok t) ws = ret (t.0, ws)
+made (Err Ma.Full) ws = fail full ws
+made (Err Ma.Broken) ws = fail broken ws

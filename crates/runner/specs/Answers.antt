@@ -1,10 +1,17 @@
 -- What each case of the answer means: its number, place, length and steps. Every promise about inference speaks through `told`.
 -- After this file a reader knows what a call leaves behind: `called` puts together what is returned and what memory then holds.
-use Rattle.std.specs.Prelude.{ℕ, List}
+use Rattle.std.specs.Prelude.{ℕ, List, Result, Ok, Err}
 use Rattle.inference.specs.Answer as I
 use Rattle.inference.specs.Infer.{output_after, work_after}
-use Rattle.runner.specs.declared.Answer.{Answer}
-use Rattle.runner.specs.declared.Answer.TheVariants.{Typed, Problems, Oversized, BadEnvironment, BadFormula, Beyond, Full, Spent, NoRoom}
+use Rattle.runner.specs.declared.Verdict.{Verdict}
+use Rattle.runner.specs.declared.Verdict.TheVariants.{Typed, Problems}
+use Rattle.runner.specs.declared.Outcome.{Outcome}
+use Rattle.runner.specs.declared.Refusal.{Refusal}
+use Rattle.runner.specs.declared.Refusal.TheVariants.{Oversized, BadEnvironment, BadFormula, Beyond, Full, Spent, NoRoom}
+
+-- an answer: an outcome or a refusal
+abbrev pub Answer : Type 0
+Answer = Result Outcome Refusal
 
 -- what is returned
 pub record Told : Type 0 where
@@ -16,16 +23,19 @@ pub record Told : Type 0 where
 abbrev pub refusal : ℕ → ℕ → Told
 refusal n p = record { number = n; place = p; size = 0; steps = 0 }
 
+unfoldable pub number_of : Verdict → ℕ
+number_of Typed = 0
+number_of Problems = 1
+
 unfoldable pub told : Answer → Told
-told (Typed n k) = record { number = 0; place = 0; size = n; steps = k }
-told (Problems n k) = record { number = 1; place = 0; size = n; steps = k }
-told Oversized = refusal 2 0
-told (BadEnvironment p) = refusal 3 p.0
-told (BadFormula p) = refusal 4 p.0
-told (Beyond p) = refusal 5 p.0
-told Full = refusal 6 0
-told Spent = refusal 7 0
-told NoRoom = refusal 8 0
+told (Ok o) = record { number = number_of o.verdict; place = 0; size = o.length; steps = o.steps }
+told (Err Oversized) = refusal 2 0
+told (Err (BadEnvironment p)) = refusal 3 p.0
+told (Err (BadFormula p)) = refusal 4 p.0
+told (Err (Beyond p)) = refusal 5 p.0
+told (Err Full) = refusal 6 0
+told (Err Spent) = refusal 7 0
+told (Err NoRoom) = refusal 8 0
 
 -- the definition's answer, less its bytes
 unfoldable pub brief : I.Answer → Told

@@ -1,13 +1,7 @@
--- How a walk begins: its state, and the environment's types by name in the book.
-use Rattle.std.specs.Prelude.{ℕ, zero, suc, ◌+◌, false, List, get_or}
+-- How a walk begins: the environment's types by name in the book.
+use Rattle.std.specs.Prelude.{ℕ, zero, suc, ◌+◌, List, get_or}
 use Rattle.types.specs.Limits.{max_names}
-use Rattle.machine.specs.declared.State.{State}
 use Rattle.machine.specs.Machine.{Mach, cell, put_of}
-
--- the state that a walk begins with
-unfoldable pub start_of : ℕ → State
-start_of budget =
-    record { at = record { 0 = 0 }; from = record { 0 = 0 }; last = record { 0 = 0 }; nodes = 0; budget = budget; slots = 0; met = 0; bound = 0; bytes = 0; over = false; stop = 0 }
 
 -- the environment's types by name, k of them from x on, into the book
 unfoldable pub entered_from : List ℕ → ℕ → ℕ → Mach → Mach

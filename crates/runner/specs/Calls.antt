@@ -1,11 +1,12 @@
 -- A whole call step by step, as the entry goes: by the environment's form, then by the formula's, then the walk.
 -- What it comes to is `infer_of` of crate `inference`.
-use Rattle.std.specs.Prelude.{ℕ, ◌+◌, ◌*◌, true, false, List, take}
+use Rattle.std.specs.Prelude.{ℕ, ◌+◌, ◌*◌, List, take, Ok, Err}
 use Rattle.types.specs.Limits.{book}
-use Rattle.formula.specs.declared.Form.{Form}
-use Rattle.formula.specs.declared.Form.TheVariants.{Good, TooLong, Bad}
+use Rattle.formula.specs.Parse.{Form}
+use Rattle.formula.specs.declared.FormError.TheVariants.{TooLong, At}
 use Rattle.memory.specs.Memory.{cleared}
-use Rattle.runner.specs.declared.Answer.TheVariants.{Oversized}
+use Rattle.runner.specs.declared.Input.TheVariants.{Environment, Formula}
+use Rattle.runner.specs.declared.Refusal.TheVariants.{Oversized}
 use Rattle.runner.specs.Answers.{told, Call, called}
 use Rattle.runner.specs.Run.{Judged, judged, run_of, judge_of, fault_of}
 
@@ -14,11 +15,11 @@ unfoldable pub closed : Judged → List ℕ → Call
 closed j work = called j.answer (cleared (told j.answer).size j.out) (cleared 0 work)
 
 unfoldable pub formula_call : Form → List ℕ → List ℕ → List ℕ → ℕ → ℕ → List ℕ → List ℕ → Call
-formula_call TooLong s env types capacity budget out work = called Oversized out work
-formula_call (Bad f) s env types capacity budget out work = closed (judged (fault_of false f) out) work
-formula_call Good s env types capacity budget out work = closed (judge_of budget (run_of s env types (capacity * 3) budget (take (capacity * 3 + book) work) out)) work
+formula_call (Err TooLong) s env types capacity budget out work = called (Err Oversized) out work
+formula_call (Err (At f)) s env types capacity budget out work = closed (judged (Err (fault_of Formula f)) out) work
+formula_call (Ok u) s env types capacity budget out work = closed (judge_of budget (run_of s env types (capacity * 3) budget (take (capacity * 3 + book) work) out)) work
 
 unfoldable pub environment_call : Form → Form → List ℕ → List ℕ → List ℕ → ℕ → ℕ → List ℕ → List ℕ → Call
-environment_call TooLong form s env types capacity budget out work = called Oversized out work
-environment_call (Bad f) form s env types capacity budget out work = closed (judged (fault_of true f) out) work
-environment_call Good form s env types capacity budget out work = formula_call form s env types capacity budget out work
+environment_call (Err TooLong) form s env types capacity budget out work = called (Err Oversized) out work
+environment_call (Err (At f)) form s env types capacity budget out work = closed (judged (Err (fault_of Environment f)) out) work
+environment_call (Ok u) form s env types capacity budget out work = formula_call form s env types capacity budget out work

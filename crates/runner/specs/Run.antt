@@ -1,17 +1,25 @@
 -- Inference step by step, as the code goes: the walk, the tests, the verdict, the refusals of form.
 -- What all of it comes to is `infer_of` of crate `inference`; crate `assembly` has the proof.
-use Rattle.std.specs.Prelude.{ℕ, ◌-◌, Bool, true, false, List, eqb}
-use Rattle.formula.specs.declared.Fault.{Fault}
-use Rattle.formula.specs.declared.Fault.TheVariants as F
-use Rattle.machine.specs.declared.State.{State}
+use Rattle.std.specs.Prelude.{ℕ, ◌-◌, List, eqb, Ok, Err}
+use Rattle.types.specs.declared.Place.{Place}
+use Rattle.types.specs.declared.Fault.{Fault}
+use Rattle.types.specs.declared.Fault.TheVariants as F
+use Rattle.machine.specs.State.{State}
+use Rattle.machine.specs.declared.Stop.{Stop}
+use Rattle.machine.specs.declared.Stop.TheVariants as St
 use Rattle.forms.specs.Forms.{test, then}
-use Rattle.machine.specs.Machine.{Mach, mach}
+use Rattle.machine.specs.Machine.{Mach, mach, start_of}
 use Rattle.memory.specs.Memory.{cleared}
 use Rattle.walker.specs.Root.{formula_of}
 use Rattle.finisher.specs.Finisher.{finish_of, write_answer_of}
-use Rattle.runner.specs.Begin.{start_of, entered_of}
-use Rattle.runner.specs.declared.Answer.{Answer}
-use Rattle.runner.specs.declared.Answer.TheVariants.{Typed, Problems, Oversized, BadEnvironment, BadFormula, Beyond, Full, Spent, NoRoom}
+use Rattle.runner.specs.Begin.{entered_of}
+use Rattle.runner.specs.declared.Verdict.{Verdict}
+use Rattle.runner.specs.declared.Verdict.TheVariants.{Typed, Problems}
+use Rattle.runner.specs.declared.Input.{Input}
+use Rattle.runner.specs.declared.Input.TheVariants.{Environment, Formula}
+use Rattle.runner.specs.declared.Refusal.{Refusal}
+use Rattle.runner.specs.declared.Refusal.TheVariants.{Oversized, BadEnvironment, BadFormula, Beyond, Full, Spent, NoRoom}
+use Rattle.runner.specs.Answers.{Answer}
 
 unfoldable pub run_of : List ℕ → List ℕ → List ℕ → ℕ → ℕ → List ℕ → List ℕ → Mach
 run_of s env types size budget work out =
@@ -20,14 +28,19 @@ run_of s env types size budget work out =
     finish_of b
 
 -- what a state says once it is final
-unfoldable pub verdict_of : Bool → ℕ → State → Answer
-verdict_of typed budget v =
-    test (eqb v.stop 6) (λ _. Full)
-    (λ _. test (eqb v.stop 7) (λ _. Spent)
+unfoldable pub verdict_of : Verdict → ℕ → State → Answer
+verdict_of verdict budget v =
+    test (eqb v.stop 6) (λ _. Err Full)
+    (λ _. test (eqb v.stop 7) (λ _. Err Spent)
     (λ _. test (eqb v.stop 0)
-    (λ _. test v.over (λ _. NoRoom)
-    (λ _. test typed (λ _. Typed v.bytes (budget - v.budget)) (λ _. Problems v.bytes (budget - v.budget))))
-    (λ _. Oversized)))
+    (λ _. test v.over (λ _. Err NoRoom) (λ _. Ok (record { verdict = verdict; length = v.bytes; steps = budget - v.budget })))
+    (λ _. Err Oversized)))
+
+-- what a walk that stops is refused with
+abbrev pub refused_by : Stop → Refusal
+refused_by St.Full = Full
+refused_by St.Spent = Spent
+refused_by St.Broken = Oversized
 
 -- an answer, and the output then
 pub record Judged : Type 0 where
@@ -40,13 +53,15 @@ judged a out = record { answer = a; out = out }
 unfoldable pub judge_of : ℕ → Mach → Judged
 judge_of budget m =
     test (eqb m.st.stop 0)
-    (λ _. test m.st.over (λ _. judged (verdict_of false budget m.st) m.out)
+    (λ _. test m.st.over (λ _. judged (verdict_of Problems budget m.st) m.out)
     (λ _. test (eqb m.st.bytes 0)
-    (λ _. then (write_answer_of m) λ w. judged (verdict_of true budget w.st) w.out)
-    (λ _. judged (verdict_of false budget m.st) m.out)))
-    (λ _. judged (verdict_of false budget m.st) m.out)
+    (λ _. then (write_answer_of m) λ w. judged (verdict_of Typed budget w.st) w.out)
+    (λ _. judged (verdict_of Problems budget m.st) m.out)))
+    (λ _. judged (verdict_of Problems budget m.st) m.out)
 
 -- a fault of form, of the environment or of the formula
-unfoldable pub fault_of : Bool → Fault → Answer
-fault_of environment (F.Malformed p) = test environment (λ _. BadEnvironment p) (λ _. BadFormula p)
-fault_of environment (F.Beyond p) = Beyond p
+unfoldable pub fault_of : Input → Fault Place → Refusal
+fault_of Environment (F.Malformed p) = BadEnvironment p
+fault_of Environment (F.Beyond p) = Beyond p
+fault_of Formula (F.Malformed p) = BadFormula p
+fault_of Formula (F.Beyond p) = Beyond p

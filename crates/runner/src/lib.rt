@@ -3,24 +3,35 @@
 
 ghost use Rattle.std.specs.Prelude.{◌≡◌, List, ℕ, ◌+◌, ◌*◌, ◌-◌, ◌<◌, ◌≤◌, length};
 ghost use Rattle.inference.specs.Infer.{sized};
-ghost use Rattle.machine.specs.Machine.{mach};
-ghost use Rattle.machine.specs.declared.State as S;
+ghost use Rattle.machine.specs.Seen.{machine, Kept};
 ghost use Rattle.memory.specs.Memory.{cleared};
 ghost use Rattle.runner.specs.Answers.{told, called};
-ghost use Rattle.runner.specs.Begin.{start_of, entered_of};
-ghost use Rattle.runner.specs.Run.{verdict_of, judged, judge_of, fault_of};
+ghost use Rattle.runner.specs.Begin.{entered_of};
+ghost use Rattle.runner.specs.Run.{verdict_of, judged, judge_of, refused_by, fault_of};
 
-use formula::Fault;
-use machine::State;
-use types::{NodeRef, Place};
+use machine::{Machine, Stop};
+use types::{Fault, Place};
 
-// What inference answers.
+// Whether a formula's types were found.
+#[derive(Clone, Copy, PartialEq, Eq)]
+pub enum Verdict {
+    // 0
+    Typed,
+    // 1
+    Problems,
+}
+
+// What inference comes to: its verdict, the bytes written, the steps taken.
 #[derive(Clone, Copy)]
-pub enum Answer {
-    // 0: the bytes written and the steps taken
-    Typed(usize, u64),
-    // 1: the bytes written and the steps taken
-    Problems(usize, u64),
+pub struct Outcome {
+    pub verdict: Verdict,
+    pub length: usize,
+    pub steps: u64,
+}
+
+// Why there is no outcome.
+#[derive(Clone, Copy)]
+pub enum Refusal {
     // 2
     Oversized,
     // 3
@@ -37,120 +48,96 @@ pub enum Answer {
     NoRoom,
 }
 
+// Where a fault of form stands.
+#[derive(Clone, Copy, PartialEq, Eq)]
+pub enum Input {
+    Environment,
+    Formula,
+}
+
+// A walk that stops has no outcome: 6, 7, or 2 for what cannot happen once the form is tested.
+impl From<Stop> for Refusal {
+    ghost from_gives = { λ stop refusal. refusal ≡ refused_by stop };
+
+    fn from(stop: Stop) -> Refusal {
+        match stop {
+            Stop::Full => Refusal::Full,
+            Stop::Spent => Refusal::Spent,
+            Stop::Broken => Refusal::Oversized,
+        }
+    }
+}
+
+// What inference answers.
+pub type Answer = Result<Outcome, Refusal>;
+
 // ---- number 2
 
+#[tactic(auto, unfolding(inference::specs::Infer::sized))]
 pub fn fits(formula: usize, environment: usize, names: u32, capacity: u32, work: usize) -> bool
     ensures { result ≡ sized formula environment names capacity work }
 {
-    if formula > types::MAX_BYTES {
-        return false;
-    }
-    if environment > types::MAX_BYTES {
-        return false;
-    }
-    if names > types::MAX_NAMES {
-        return false;
-    }
-    if capacity == 0 {
-        return false;
-    }
-    if capacity > types::MAX_CAPACITY {
-        return false;
-    }
-    capacity as usize * 3 + types::BOOK <= work
+    formula <= types::MAX_BYTES
+        && environment <= types::MAX_BYTES
+        && names <= types::MAX_NAMES
+        && 1 <= capacity
+        && capacity <= types::MAX_CAPACITY
+        && 3 * capacity as usize + types::BOOK <= work
 }
 
 // ---- the walk and the finish
 
-// The state that a walk begins with.
-pub fn start(budget: u64) -> State
-    ensures { result ≡ start_of budget }
-{
-    State {
-        at: Place(0),
-        from: Place(0),
-        last: NodeRef(0),
-        nodes: 0,
-        budget,
-        slots: 0,
-        met: 0,
-        bound: 0,
-        bytes: 0,
-        over: false,
-        stop: 0,
-    }
-}
-
 // The environment's types, by name, into the book.
-pub fn enter_types(work: &mut [u32], size: u32, types: &[u32; 256])
-    ensures { (st : S.State) (out : List ℕ) → mach size st work.new out ≡ entered_of types.now (mach size st work.old out) }
+#[tactic(auto, using(crate::proofs::Laws::turns))]
+pub fn enter_types(walk: &mut Machine, types: &[u32; 256])
+    ensures value { machine walk.new ≡ entered_of types.now (machine walk.old) }
+    ensures kept { Kept walk.old walk.new }
 {
-    let mut x: u32 = 0;
-    while x < types::MAX_NAMES {
-        let i = x as usize;
-        machine::put(work, size, machine::ENTRIES, 1, x, 0, types[i]);
-        x += 1;
+    for x in 0..types::MAX_NAMES {
+        walk.put(machine::ENTRIES, x, 0, types[x as usize]);
     }
 }
 
 // ---- the answer
 
-// What of a budget is not left.
-fn steps(budget: u64, left: u64) -> u64
-    ensures { result ≡ budget - left }
+// The answer of a walk that found no room, or whose bytes stand in the output.
+#[tactic(auto, using(machine::specs::Still::tests), unfolding(crate::specs::Run::verdict_of))]
+fn conclude(verdict: Verdict, budget: u64, walk: &Machine) -> Answer
+    ensures { result ≡ verdict_of verdict budget (machine walk.now).st }
 {
-    if left <= budget { budget - left } else { 0 }
+    if walk.over {
+        return Err(Refusal::NoRoom);
+    }
+    Ok(Outcome {
+        verdict,
+        length: walk.bytes,
+        steps: budget.saturating_sub(walk.budget),
+    })
 }
 
-// The answer of a walk that stopped or found no room, or whose bytes stand in the output: a number other than 0 where there are bytes before the typing's.
-fn verdict(typed: bool, budget: u64, st: State) -> Answer
-    ensures { result ≡ verdict_of typed budget st }
+// After the tests: problems or no room as they stand; else the typing's entries are written.
+#[tactic(auto, using(machine::specs::Still::tests, crate::specs::Stops::verdict_stops), unfolding(crate::specs::Run::judge_of, forms::specs::Forms::then))]
+pub fn judge(walk: &mut Machine, budget: u64) -> Answer
+    ensures value { judged result walk.new.output.now ≡ judge_of budget (machine walk.old) }
+    ensures kept { Kept walk.old walk.new }
 {
-    if st.stop == 6 {
-        return Answer::Full;
+    if walk.over || walk.bytes != 0 {
+        return conclude(Verdict::Problems, budget, walk);
     }
-    if st.stop == 7 {
-        return Answer::Spent;
-    }
-    if st.stop != 0 {
-        return Answer::Oversized;
-    }
-    if st.over {
-        return Answer::NoRoom;
-    }
-    if typed {
-        return Answer::Typed(st.bytes, steps(budget, st.budget));
-    }
-    Answer::Problems(st.bytes, steps(budget, st.budget))
-}
-
-// After the tests: problems, a stop or no room as they stand; else the typing's entries are written.
-pub fn judge(work: &[u32], output: &mut [u8], size: u32, budget: u64, st: State) -> Answer
-    ensures { judged result output.new ≡ judge_of budget (mach size st work.now output.old) }
-{
-    if st.stop != 0 {
-        return verdict(false, budget, st);
-    }
-    if st.over {
-        return verdict(false, budget, st);
-    }
-    if st.bytes != 0 {
-        return verdict(false, budget, st);
-    }
-    let written = finisher::write_answer(work, output, size, st);
-    verdict(true, budget, written)
+    finisher::write_answer(walk)?;
+    conclude(Verdict::Typed, budget, walk)
 }
 
 // ---- what is left behind
 
 // The bytes of an answer.
+#[tactic(auto, unfolding(crate::specs::Answers::told))]
 fn length_of(answer: Answer) -> usize
     ensures { result ≡ (told answer).size }
 {
     match answer {
-        Answer::Typed(n, _) => n,
-        Answer::Problems(n, _) => n,
-        _ => 0,
+        Ok(outcome) => outcome.length,
+        Err(_) => 0,
     }
 }
 
@@ -163,17 +150,16 @@ pub fn close(answer: Answer, output: &mut [u8], work: &mut [u32]) -> Answer
     answer
 }
 
-// A fault of form, as an answer.
-pub fn refusal(environment: bool, fault: Fault) -> Answer
-    ensures { result ≡ fault_of environment fault }
+// A fault of form, as a refusal.
+#[tactic(auto, unfolding(crate::specs::Run::fault_of))]
+pub fn blame(input: Input, fault: Fault<Place>) -> Refusal
+    ensures { result ≡ fault_of input fault }
 {
     match fault {
-        Fault::Malformed(p) => {
-            if environment {
-                return Answer::BadEnvironment(p);
-            }
-            Answer::BadFormula(p)
-        }
-        Fault::Beyond(p) => Answer::Beyond(p),
+        Fault::Malformed(p) => match input {
+            Input::Environment => Refusal::BadEnvironment(p),
+            Input::Formula => Refusal::BadFormula(p),
+        },
+        Fault::Beyond(p) => Refusal::Beyond(p),
     }
 }

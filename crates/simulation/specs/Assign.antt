@@ -25,8 +25,8 @@ use Rattle.walker.specs.Root.{pair_by, product_by, belongs_of, becomes_in_of}
 use Rattle.simulation.specs.Relation.{Runs}
 use Rattle.simulation.specs.Bind.{runs_bind}
 use Rattle.simulation.specs.Stand.{runs_if, runs_map, runs_stand}
-use Rattle.simulation.specs.Still.{still_make, still_expect, still_times}
-use Rattle.simulation.specs.StillWalk.{Still, still_expr}
+use Rattle.machine.specs.Still.{still_make, still_expect, still_times}
+use Rattle.walker.specs.StillWalk.{Still, still_expr}
 use Rattle.simulation.specs.Output.{assoc}
 use Rattle.simulation.specs.Nodes.{Came, Gave, runs_make, runs_expect}
 use Rattle.simulation.specs.Bytes.{drop_past}

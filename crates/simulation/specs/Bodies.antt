@@ -27,18 +27,19 @@ use Rattle.unification.specs.Make.{builds_boolean, builds_integer}
 use Rattle.walk.specs.Writer.{Walk, W, done, ◌>>=◌, unknown, boolean, integer, power}
 use Rattle.walk.specs.Scripts.{Script, perform, three, never_script, atomic_scripts, binary_scripts, unary_scripts, quantified_scripts, no_script, associative_scripts}
 use Rattle.walk.specs.Walk.{each, gather, counted, name, meets, ascription, declare, over, script_of, walk, walk_all, walk_pred}
-use Rattle.machine.specs.declared.State.{State}
+use Rattle.machine.specs.State.{State}
 use Rattle.forms.specs.Forms.{then}
 use Rattle.machine.specs.Machine.{Mach, with_st, placed_of, gave_of, bound_of, make_of}
 use Rattle.machine.specs.Types.{skip_of, free_of, bound_identifier_of, meets_of, ascription_of, declare_of}
+use Rattle.operators.specs.declared.Script as MS
 use Rattle.operators.specs.Operators.{check_atomic_of, check_binary_of, check_unary_of, check_quantified_of, check_associative_of}
 use Rattle.machine.specs.Scripts.{parts_of, play_of}
 use Rattle.walker.specs.Walk.{one_by, two_by, all_by, extension_plan, quant_by, ascribed_by, typed_by, body_by}
 use Rattle.simulation.specs.Relation.{Opened, Ended, Runs}
 use Rattle.simulation.specs.Bind.{runs_bind}
-use Rattle.simulation.specs.Stand.{test_yes, standing, placed_eq, gave_eq, runs_if, runs_map, runs_stand}
-use Rattle.simulation.specs.Still.{still_make, still_ascription, still_gave, still_placed, still_meets, still_bound, still_within}
-use Rattle.simulation.specs.StillWalk.{Still, still_one}
+use Rattle.simulation.specs.Stand.{standing, placed_eq, gave_eq, runs_if, runs_map, runs_stand}
+use Rattle.machine.specs.Still.{test_yes, still_make, still_ascription, still_gave, still_placed, still_meets, still_bound, still_within}
+use Rattle.walker.specs.StillWalk.{Still, still_one}
 use Rattle.simulation.specs.Steps.{runs_given, runs_after}
 use Rattle.simulation.specs.Nodes.{Came, Gave, Stood, runs_make}
 use Rattle.simulation.specs.Names.{runs_free, runs_identifier}
@@ -202,7 +203,7 @@ module _ (Γ : Env) (env : List ℕ) (cap room : ℕ) (wide : cap ≤ 32768) (br
     unfolding body_by quant_by then script_of
     quantified_body o d ds c a rest l fit fits placed go e m at0 =
         let sc : Script = look quantified_scripts never_script o in
-        let n : ℕ = check_quantified_of o in
+        let n : MS.Script = check_quantified_of o in
         let m1 : Mach = stood (p + 3) m in
         let A1 : Mach = declare_of s env (decls ds) m1 in
         let A2 : Mach = P A1 in

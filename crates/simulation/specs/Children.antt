@@ -1,8 +1,8 @@
 -- Rows of expressions: walked and no more, each compared with a node, or linked one to the next; by a plan.
 -- After this file `all_by` runs what the walk does with the children of 05, 08, 28 and 29.
 use Prim.Native.Nat.{ℕ, ◌+◌, ◌≤◌}
-use Rattle.std.specs.Prelude.{◌≡◌, refl, List, length, eqb}
-use Rattle.std.proofs.Common.{sym, ◌∙◌, subst, eq-eqb, ne_eqb}
+use Rattle.std.specs.Prelude.{◌≡◌, refl, List, length}
+use Rattle.std.proofs.Common.{sym, ◌∙◌, subst}
 use Rattle.std.proofs.Math.Path.{ap}
 use native.Mathlib.Omega.{arith}
 use Rattle.types.specs.declared.NodeRef.{NodeRef}
@@ -15,7 +15,11 @@ use Rattle.unification.specs.Ops.{Sound, exec}
 use Rattle.walk.specs.Writer.{Walk, W, done, ◌>>=◌, same, unknown}
 use Rattle.walk.specs.Scripts.{pick, three}
 use Rattle.walk.specs.Walk.{Mode, loose, each, links, relation, stepped, walk, walk_all}
-use Rattle.machine.specs.declared.State.{State}
+use Rattle.machine.specs.State.{State}
+use Rattle.operators.specs.declared.Script as MS
+use Rattle.operators.specs.declared.Script.TheVariants as S
+use Rattle.operators.specs.declared.Mode as MM
+use Rattle.operators.specs.declared.Mode.TheVariants.{Loose, Same, Linked}
 use Rattle.operators.specs.declared.Plan.{Plan}
 use Rattle.forms.specs.Forms.{then}
 use Rattle.machine.specs.Machine.{Mach, with_st, gave_of, expect_of}
@@ -23,30 +27,46 @@ use Rattle.machine.specs.Scripts.{parts_of, play_of}
 use Rattle.walker.specs.Walk.{meet_of, next_of, child_by, children_by, all_by}
 use Rattle.simulation.specs.Relation.{Ended, Runs}
 use Rattle.simulation.specs.Bind.{runs_bind}
-use Rattle.simulation.specs.Stand.{test_yes, test_no, standing, gave_eq, runs_if, runs_map, runs_stand}
-use Rattle.simulation.specs.Still.{still_play}
-use Rattle.simulation.specs.StillWalk.{Still, still_meet, still_children}
+use Rattle.simulation.specs.Stand.{standing, gave_eq, runs_if, runs_map, runs_stand}
+use Rattle.machine.specs.Still.{still_play}
+use Rattle.walker.specs.StillWalk.{Still, still_meet, still_children}
 use Rattle.simulation.specs.Steps.{told, runs_after}
 use Rattle.simulation.specs.Nodes.{Came, Gave, Stood, runs_expect}
-use Rattle.simulation.specs.Play.{tied, items, runs_script}
+use Rattle.simulation.specs.Play.{Tied, items, runs_script}
 use Rattle.simulation.specs.Perform.{three_chosen}
-use Rattle.simulation.specs.Shapes.{Moded, Goes, link_number, link_as, link-tied, linked-is, play-nothing, parts-base}
+use Rattle.simulation.specs.Shapes.{Moded, Goes, link_script, link_as, link-tied, linked-is, play-nothing, parts-base}
 
-next-other : (mode : ℕ) (y t : NodeRef) → (mode ≡ 2 → ⊥) → next_of mode y t ≡ y
+next-same : (mode : MM.Mode) (y t : NodeRef) → mode ≡ Same → next_of mode y t ≡ y
 unfolding next_of
-next-other mode y t h = test_no (eqb mode 2) _ _ (ne_eqb mode 2 h)
+next-same mode y t h = rw h refl
 
-next-link : (mode : ℕ) (y t : NodeRef) → mode ≡ 2 → next_of mode y t ≡ t
+next-link : (mode : MM.Mode) (y t : NodeRef) → mode ≡ Linked → next_of mode y t ≡ t
 unfolding next_of
-next-link mode y t h = test_yes (eqb mode 2) _ _ (eq-eqb mode 2 h)
+next-link mode y t h = rw h refl
 
-meet-none : (mode x y p : ℕ) (m : Mach) → mode ≡ 0 → meet_of mode x y p m ≡ m
+meet-none : (mode : MM.Mode) (x y p : ℕ) (m : Mach) → mode ≡ Loose → meet_of mode x y p m ≡ m
 unfolding meet_of
-meet-none mode x y p m h = test_yes (eqb mode 0) _ _ (eq-eqb mode 0 h)
+meet-none mode x y p m h = rw h refl
 
-meet-some : (mode x y p : ℕ) (m : Mach) → (mode ≡ 0 → ⊥) → meet_of mode x y p m ≡ expect_of x y p m
-unfolding meet_of
-meet-some mode x y p m h = test_no (eqb mode 0) _ _ (ne_eqb mode 0 h)
+-- a mode that compares
+unfoldable Meets : MM.Mode → Type 0
+Meets Loose = ⊥
+Meets Same = Unit {0}
+Meets Linked = Unit {0}
+
+same-meets : (mode : MM.Mode) → mode ≡ Same → Meets mode
+unfolding Meets
+same-meets mode h = subst Meets (sym h) tt
+
+link-meets : (mode : MM.Mode) → mode ≡ Linked → Meets mode
+unfolding Meets
+link-meets mode h = subst Meets (sym h) tt
+
+meet-some : (mode : MM.Mode) (x y p : ℕ) (m : Mach) → Meets mode → meet_of mode x y p m ≡ expect_of x y p m
+unfolding Meets meet_of
+meet-some Loose x y p m h = absurd h
+meet-some Same x y p m h = refl
+meet-some Linked x y p m h = refl
 
 module _ (Γ : Env) (env : List ℕ) (cap room : ℕ) (wide : cap ≤ 32768) (E : Mach → Mach) (stays : Still E) (B : List ℕ) where
   -- the children's walks, from p on
@@ -68,11 +88,11 @@ module _ (Γ : Env) (env : List ℕ) (cap room : ℕ) (wide : cap ≤ 32768) (E 
     abbrev Mc : Mach
     Mc = meet_of plan.mode Mb.st.last.0 Ma.st.last.0 Mb.st.from.0 Mb
 
-    nothing_eq : plan.link ≡ 0 → m.st.stop ≡ 0 → Ma ≡ with_st (standing K m.st.from.0 y.0 m.st) m
-    nothing_eq e0 g = ap (λ (k : ℕ). play_of k (parts_of y.0 K y.0 K K m.st) m) e0 ∙ play-nothing y.0 K y.0 K K m.st m ∙ ap (λ (v : State). with_st v m) (gave_eq y.0 m.st g)
+    nothing_eq : plan.link ≡ S.Nothing → m.st.stop ≡ 0 → Ma ≡ with_st (standing K m.st.from.0 y.0 m.st) m
+    nothing_eq e0 g = ap (λ (k : MS.Script). play_of k (parts_of y.0 K y.0 K K m.st) m) e0 ∙ play-nothing y.0 K y.0 K K m.st m ∙ ap (λ (v : State). with_st v m) (gave_eq y.0 m.st g)
 
     -- the comparison after the child's walk, and what comes then
-    compared : (x z : ℕ) (rest : W Mode) → (plan.mode ≡ 0 → ⊥) → Came (p + size e) (place e) x Mb → Ma.st.last.0 ≡ z → ((Mc.st.stop ≡ 0 → ⊥) → final.st.stop ≡ Mc.st.stop)
+    compared : (x z : ℕ) (rest : W Mode) → Meets plan.mode → Came (p + size e) (place e) x Mb → Ma.st.last.0 ≡ z → ((Mc.st.stop ≡ 0 → ⊥) → final.st.stop ≡ Mc.st.stop)
         → (Mc.st.at.0 ≡ p + size e → Runs Γ env cap room Mc final rest B (λ _. B) Q) → Runs Γ env cap room Mb final (same x z (place e) >>= λ _. rest) B (λ _. B) Q
     compared x z rest h c f thr k =
         let is : Mc ≡ expect_of x z (place e) Mb = meet-some plan.mode Mb.st.last.0 Ma.st.last.0 Mb.st.from.0 Mb h ∙ rw (c.2, f, c.1) refl in
@@ -80,7 +100,7 @@ module _ (Γ : Env) (env : List ℕ) (cap room : ℕ) (wide : cap ≤ 32768) (E 
         (λ _ q. k (q.0 ∙ c.0))
         (runs_if Γ env cap room Mb Mc (expect_of x z (place e) Mb) (same x z (place e)) B (λ _. B) _ (λ g. is) (runs_expect Γ env cap room wide x z (place e) Mb B))
 
-    child_loose : (rest : W Mode) → plan.link ≡ 0 → plan.mode ≡ 0 → ((Mc.st.stop ≡ 0 → ⊥) → final.st.stop ≡ Mc.st.stop) → (Mc.st.at.0 ≡ p + size e → Runs Γ env cap room Mc final rest B (λ _. B) Q)
+    child_loose : (rest : W Mode) → plan.link ≡ S.Nothing → plan.mode ≡ Loose → ((Mc.st.stop ≡ 0 → ⊥) → final.st.stop ≡ Mc.st.stop) → (Mc.st.at.0 ≡ p + size e → Runs Γ env cap room Mc final rest B (λ _. B) Q)
         → Runs Γ env cap room m final (walk Γ e B >>= λ x. rest) B (λ _. B) Q
     child_loose rest e0 e1 thr k =
         let is : Mc ≡ Mb = meet-none plan.mode Mb.st.last.0 Ma.st.last.0 Mb.st.from.0 Mb e1 in
@@ -90,16 +110,16 @@ module _ (Γ : Env) (env : List ℕ) (cap room : ℕ) (wide : cap ≤ 32768) (E 
         (λ x c. subst (λ (z : Mach). Runs Γ env cap room z final rest B (λ _. B) Q) is (k (ap (λ (z : Mach). z.st.at.0) is ∙ c.0)))
         (goes Ma (ap (λ (z : Mach). z.st.at.0) (nothing_eq e0 g) ∙ at0)))
 
-    child_each : (z : ℕ) (rest : W Mode) → plan.link ≡ 0 → plan.mode ≡ 1 → y.0 ≡ z → ((Mc.st.stop ≡ 0 → ⊥) → final.st.stop ≡ Mc.st.stop) → (Mc.st.at.0 ≡ p + size e → Runs Γ env cap room Mc final rest B (λ _. B) Q)
+    child_each : (z : ℕ) (rest : W Mode) → plan.link ≡ S.Nothing → plan.mode ≡ Same → y.0 ≡ z → ((Mc.st.stop ≡ 0 → ⊥) → final.st.stop ≡ Mc.st.stop) → (Mc.st.at.0 ≡ p + size e → Runs Γ env cap room Mc final rest B (λ _. B) Q)
         → Runs Γ env cap room m final (walk Γ e B >>= λ x. same x z (place e) >>= λ _. rest) B (λ _. B) Q
     child_each z rest e0 e1 e2 thr k =
         runs_after Γ env cap room m Ma final K m.st.from.0 y.0 (walk Γ e B >>= λ x. same x z (place e) >>= λ _. rest) B (λ _. B) Q (λ g. nothing_eq e0 g)
         (λ g. runs_bind Γ env cap room Ma Mb final (walk Γ e B) (λ x. same x z (place e) >>= λ _. rest) B (λ _. B) (λ _. B) (λ r v. Came (p + size e) (place e) r v) Q
         (λ h. (let u = still_meet plan.mode Mb.st.last.0 Ma.st.last.0 Mb.st.from.0 Mb h in thr (λ q. h (ap (λ (w : Mach). w.st.stop) (sym u) ∙ q)) ∙ ap (λ (w : Mach). w.st.stop) u))
-        (λ x c. compared x z rest (λ q. omega arith) c (ap (λ (w : Mach). w.st.last.0) (nothing_eq e0 g) ∙ e2) thr k)
+        (λ x c. compared x z rest (same-meets plan.mode e1) c (ap (λ (w : Mach). w.st.last.0) (nothing_eq e0 g) ∙ e2) thr k)
         (goes Ma (ap (λ (w : Mach). w.st.at.0) (nothing_eq e0 g) ∙ at0)))
 
-    child_links : (way : Way) (z : ℕ) (rest : ℕ → W Mode) → plan.link ≡ link_number way → plan.mode ≡ 2 → y.0 ≡ z → ((Mc.st.stop ≡ 0 → ⊥) → final.st.stop ≡ Mc.st.stop)
+    child_links : (way : Way) (z : ℕ) (rest : ℕ → W Mode) → plan.link ≡ link_script way → plan.mode ≡ Linked → y.0 ≡ z → ((Mc.st.stop ≡ 0 → ⊥) → final.st.stop ≡ Mc.st.stop)
         → (Mc.st.at.0 ≡ p + size e → Runs Γ env cap room Mc final (rest m.st.nodes) B (λ _. B) Q)
         → Runs Γ env cap room m final (unknown >>= λ t. relation way z t >>= λ w. walk Γ e B >>= λ x. same x w (place e) >>= λ _. rest t) B (λ _. B) Q
     child_links way z rest e0 e1 e2 thr k = record {
@@ -112,7 +132,7 @@ module _ (Γ : Env) (env : List ℕ) (cap room : ℕ) (wide : cap ≤ 32768) (E 
           let d = s.counted in
           let first = runs_script Γ env cap room wide (parts_of y.0 K y.0 K K m.st) (three 0 z z) pl 3 0 n0 (parts-base y.0 K y.0 K K m.st) (omega arith)
           (λ i l. three_chosen y.0 K y.0 K K m.st i l ∙ ap (λ (j : ℕ). three 0 j j i) e2) (λ i l. absurd (omega arith)) B plan.link (link_as way) m
-          (ap (λ (j : ℕ). tied 3 0 j (link_as way)) e0 ∙ link-tied way) in
+          (subst (λ (j : MS.Script). Tied 3 0 j (link_as way)) (sym e0) (link-tied way)) in
           subst (λ (x : Walk Mode). Sound b.count x.ops → m.st.slots + length x.slots ≤ 1024 → Ended Γ env cap room m final x B Q (exec cap x.ops b m.st.budget))
           (linked-is way z pl (λ t w. walk Γ e B >>= λ x. same x w (place e) >>= λ _. rest t) n0 b.count row s.count)
           ((runs_bind Γ env cap room m Ma final w1 kk B (λ _. B) (λ _. B) (λ r v. Came K m.st.from.0 r v) Q
@@ -122,7 +142,7 @@ module _ (Γ : Env) (env : List ℕ) (cap room : ℕ) (wide : cap ≤ 32768) (E 
           thr (λ q. h (ap (λ (g : Mach). g.st.stop) (sym u) ∙ q)) ∙ ap (λ (g : Mach). g.st.stop) u))
           (λ w c1. runs_bind Γ env cap room Ma Mb final (walk Γ e B) (λ x. same x w (place e) >>= λ _. rest n0) B (λ _. B) (λ _. B) (λ r v. Came (p + size e) (place e) r v) Q
           (λ h. (let u = still_meet plan.mode Mb.st.last.0 Ma.st.last.0 Mb.st.from.0 Mb h in thr (λ q. h (ap (λ (g : Mach). g.st.stop) (sym u) ∙ q)) ∙ ap (λ (g : Mach). g.st.stop) u))
-          (λ x c2. compared x w (rest n0) (λ q. omega arith) c2 c1.2 thr k)
+          (λ x c2. compared x w (rest n0) (link-meets plan.mode e1) c2 c1.2 thr k)
           (goes Ma (c1.0 ∙ at0)))
           first).ends b row s o));
     }
@@ -145,8 +165,7 @@ module _ (Γ : Env) (env : List ℕ) (cap room : ℕ) (wide : cap ≤ 32768) (E 
       let t : NodeRef = record { 0 = m.st.nodes } in
       let C : Mach = child_by E plan y m in
       let F : Mach = children_by E plan (exprs es) (next_of plan.mode y t) C in
-      let md1 = h.1 in
-      let n : (next_of plan.mode y t).0 ≡ x = ap (λ (r : NodeRef). r.0) (next-other plan.mode y t (λ q. omega arith)) ∙ h.2 in
+      let n : (next_of plan.mode y t).0 ≡ x = ap (λ (r : NodeRef). r.0) (next-same plan.mode y t h.1) ∙ h.2 in
       child_each e p go.0 plan y m at0 F _ x (walk_all Γ es (each x) B) h.0 h.1 h.2 (λ k. ap (λ (z : Mach). z.st.stop) (still_children E stays plan (exprs es) (next_of plan.mode y t) C k))
       (λ a. runs_map Γ env cap room C F (walk_all Γ es (each x) B) B (λ _. B) _ _ (λ md q. (q.0 ∙ omega arith, q.1)) (runs_children es (each x) plan (next_of plan.mode y t) (p + size e) go.1 (h.0, h.1, n) C a))
   runs_children (more e es) (links way x) plan y p go h m at0 =

@@ -1,6 +1,6 @@
 -- The whole walk over expressions and predicates: where the bytes spell a tree that fits, the machine runs the tree's operations.
 -- After this file `tie` and `tie_pred` hold for every expression and predicate, at every level.
-use Rattle.std.specs.Prelude.{ℕ, zero, suc, ◌+◌, ◌/◌, ◌%◌, ◌≤◌, ◌≡◌, refl, false, List, [], ◌∷◌, ◌++◌, length, drop, eqb}
+use Rattle.std.specs.Prelude.{ℕ, zero, suc, ◌+◌, ◌/◌, ◌%◌, ◌≤◌, ◌≡◌, refl, false, List, [], ◌∷◌, ◌++◌, length, drop, eqb, Option, Some}
 use Rattle.std.proofs.Math.Path.{sym, ap}
 use Rattle.std.proofs.Common.{◌∙◌, subst, arith, eq-eqb, ne_eqb}
 use Rattle.std.proofs.Math.Decide.{ℕ_discrete}
@@ -10,10 +10,6 @@ use Rattle.types.specs.Ty as T
 use Rattle.heads.specs.declared.ExprHead.{ExprHead}
 use Rattle.heads.specs.declared.ExprHead.TheVariants.{Explicit}
 use Rattle.heads.specs.declared.PredHead.{PredHead}
-use Rattle.heads.specs.declared.ExprAt.{ExprAt}
-use Rattle.heads.specs.declared.ExprAt.TheVariants as EA
-use Rattle.heads.specs.declared.PredAt.{PredAt}
-use Rattle.heads.specs.declared.PredAt.TheVariants as PA
 use Rattle.types.specs.Record.{reach}
 use Rattle.heads.specs.Heads.{expr_head, pred_head}
 use Rattle.heads.specs.Heads as H
@@ -31,9 +27,9 @@ use Rattle.forms.specs.Forms.{test, then}
 use Rattle.machine.specs.Machine.{Mach, with_st, paid_of, enter_of, leave_of}
 use Rattle.walker.specs.Walk.{typed_by, body_by, pred_body_by, entered_by, expr_by, pred_by, paid_by, owned_by, expr_of, pred_of}
 use Rattle.simulation.specs.Relation.{Runs}
-use Rattle.simulation.specs.Stand.{test_yes, test_no, runs_if}
-use Rattle.simulation.specs.Still.{Halted, still_leave}
-use Rattle.simulation.specs.StillWalk.{Still, still_body, still_pbody, still_explicit, still_expr, still_pred}
+use Rattle.simulation.specs.Stand.{runs_if}
+use Rattle.machine.specs.Still.{test_yes, test_no, Halted, still_leave}
+use Rattle.walker.specs.StillWalk.{Still, still_body, still_pbody, still_explicit, still_expr, still_pred}
 use Rattle.simulation.specs.Output.{assoc}
 use Rattle.simulation.specs.Nodes.{Came, Gave}
 use Rattle.simulation.specs.Bytes.{drop_past}
@@ -65,15 +61,15 @@ module _ (s env : List ℕ) where
 
   -- a head of an expression other than 0C
   abbrev Owned : ExprHead → Type 0
-  Owned g = (X : Place → Mach) (f : ExprHead → Mach) (m : Mach) → expr_by X f (EA.Is g) m ≡ f g
+  Owned g = (X : Place → Mach) (f : ExprHead → Mach) (m : Mach) → expr_by X f (Some g) m ≡ f g
 
   -- an expression other than 0C: its rule between the slot taken and the slot filled
-  expr-is : (l : ℕ) (g : ExprHead) (m : Mach) → expr_head max_names (reach s) false m.st.at ≡ EA.Is g → Owned g → expr_of (suc l) s env m ≡ leave_of m.st.slots m.st.at.0 (body_by (E l) (P l) s env g (Entered m))
+  expr-is : (l : ℕ) (g : ExprHead) (m : Mach) → expr_head max_names (reach s) false m.st.at ≡ Some g → Owned g → expr_of (suc l) s env m ≡ leave_of m.st.slots m.st.at.0 (body_by (E l) (P l) s env g (Entered m))
   unfolding expr_of owned_by entered_by then
   expr-is l g m e o =
       let X : Place → Mach = (λ i. paid_by (λ v. typed_by (E l) s i (with_st v m)) m) in
       let f : ExprHead → Mach = (λ h. owned_by (λ v. leave_of m.st.slots m.st.at.0 (body_by (E l) (P l) s env h (with_st v m))) m) in
-      ap (λ (a : ExprAt). expr_by X f a m) e ∙ o X f m ∙ by (ℕ_discrete (enter_of m.st).stop 0)
+      ap (λ (a : Option ExprHead). expr_by X f a m) e ∙ o X f m ∙ by (ℕ_discrete (enter_of m.st).stop 0)
     where
       by : Dec ((enter_of m.st).stop ≡ 0) → test (eqb (enter_of m.st).stop 0) (λ _. leave_of m.st.slots m.st.at.0 (body_by (E l) (P l) s env g (Entered m))) (λ _. Entered m) ≡ leave_of m.st.slots m.st.at.0 (body_by (E l) (P l) s env g (Entered m))
       by (yes q) = test_yes (eqb (enter_of m.st).stop 0) _ _ (eq-eqb (enter_of m.st).stop 0 q)
@@ -88,17 +84,17 @@ module _ (s env : List ℕ) where
       by (yes q) = test_yes (eqb (paid_of m.st).stop 0) _ _ (eq-eqb (paid_of m.st).stop 0 q)
       by (no q) = test_no (eqb (paid_of m.st).stop 0) _ _ (ne_eqb (paid_of m.st).stop 0 q) ∙ sym (stays (Paid m) q)
 
-  explicit-is : (l : ℕ) (i : Place) (m : Mach) → expr_head max_names (reach s) false m.st.at ≡ EA.Is (Explicit i) → expr_of (suc l) s env m ≡ typed_by (E l) s i (Paid m)
+  explicit-is : (l : ℕ) (i : Place) (m : Mach) → expr_head max_names (reach s) false m.st.at ≡ Some (Explicit i) → expr_of (suc l) s env m ≡ typed_by (E l) s i (Paid m)
   unfolding expr_of expr_by then
   explicit-is l i m e =
       let X : Place → Mach = (λ j. paid_by (λ v. typed_by (E l) s j (with_st v m)) m) in
       let f : ExprHead → Mach = (λ h. owned_by (λ v. leave_of m.st.slots m.st.at.0 (body_by (E l) (P l) s env h (with_st v m))) m) in
-      ap (λ (a : ExprAt). expr_by X f a m) e ∙ paid-is (typed_by (E l) s i) m (λ x h. still_explicit (E l) (stay_e l) s i x h)
+      ap (λ (a : Option ExprHead). expr_by X f a m) e ∙ paid-is (typed_by (E l) s i) m (λ x h. still_explicit (E l) (stay_e l) s i x h)
 
-  pred_is : (l : ℕ) (g : PredHead) (m : Mach) → pred_head (reach s) m.st.at ≡ PA.Is g → pred_of (suc l) s env m ≡ pred_body_by (E l) (P l) s env g (Paid m)
+  pred_is : (l : ℕ) (g : PredHead) (m : Mach) → pred_head (reach s) m.st.at ≡ Some g → pred_of (suc l) s env m ≡ pred_body_by (E l) (P l) s env g (Paid m)
   unfolding pred_of pred_by then
   pred_is l g m e =
-      ap (λ (a : PredAt). pred_by (λ h. paid_by (λ v. pred_body_by (E l) (P l) s env h (with_st v m)) m) a m) e
+      ap (λ (a : Option PredHead). pred_by (λ h. paid_by (λ v. pred_body_by (E l) (P l) s env h (with_st v m)) m) a m) e
       ∙ paid-is (pred_body_by (E l) (P l) s env g) m (λ x h. still_pbody (E l) (stay_e l) (P l) (stay_p l) s env g x h)
 
 module _ (Γ : Env) (env : List ℕ) (cap room : ℕ) (wide : cap ≤ 32768) (brief : length env ≤ 65536) (s : List ℕ) (short : length s ≤ 65536) (most : ℕ) (few : most ≤ 256) where
@@ -109,39 +105,39 @@ module _ (Γ : Env) (env : List ℕ) (cap room : ℕ) (wide : cap ≤ 32768) (br
   GP l q B p = GoesP Γ env cap room wide brief s short most few (P s env l) q B p
 
   -- the head at p is read where the machine stands at p
-  head_at : (p : ℕ) (a : ExprAt) (m : Mach) → expr_head max_names s false (H.place p) ≡ a → m.st.at.0 ≡ p → expr_head max_names (reach s) false m.st.at ≡ a
+  head_at : (p : ℕ) (a : Option ExprHead) (m : Mach) → expr_head max_names s false (H.place p) ≡ a → m.st.at.0 ≡ p → expr_head max_names (reach s) false m.st.at ≡ a
   head_at p a m e at0 = ap (λ (x : List ℕ). expr_head max_names x false m.st.at) (reach-all s (omega arith)) ∙ ap (λ (j : ℕ). expr_head max_names s false (H.place j)) at0 ∙ e
 
-  pred_head-at : (p : ℕ) (a : PredAt) (m : Mach) → pred_head s (H.place p) ≡ a → m.st.at.0 ≡ p → pred_head (reach s) m.st.at ≡ a
+  pred_head-at : (p : ℕ) (a : Option PredHead) (m : Mach) → pred_head s (H.place p) ≡ a → m.st.at.0 ≡ p → pred_head (reach s) m.st.at ≡ a
   pred_head-at p a m e at0 = ap (λ (x : List ℕ). pred_head x m.st.at) (reach-all s (omega arith)) ∙ ap (λ (j : ℕ). pred_head s (H.place j)) at0 ∙ e
 
   -- an expression's record around its rule
-  as_expr : (l p n : ℕ) (g : ExprHead) (w : W ℕ) (B : List ℕ) → expr_head max_names s false (H.place p) ≡ EA.Is g → Owned s env g
+  as_expr : (l p n : ℕ) (g : ExprHead) (w : W ℕ) (B : List ℕ) → expr_head max_names s false (H.place p) ≡ Some g → Owned s env g
       → ((m : Mach) → m.st.at.0 ≡ p → Runs Γ env cap room m (body_by (E s env l) (P s env l) s env g m) w B (λ _. B) (λ r v. Gave (p + n) r v))
       → (m : Mach) → m.st.at.0 ≡ p → Runs Γ env cap room m (expr_of (suc l) s env m) (enter (own p w)) B (λ _. B) (λ r v. Came (p + n) p r v)
   as_expr l p n g w B e o body m at0 =
       let m0 : Mach = with_st (enter_of m.st) m in
       let b0 : Mach = body_by (E s env l) (P s env l) s env g m0 in
       subst (λ (j : ℕ). Runs Γ env cap room m (expr_of (suc l) s env m) (enter (own j w)) B (λ _. B) (λ r v. Came (p + n) j r v)) at0
-      (runs_if Γ env cap room m (expr_of (suc l) s env m) (leave_of m.st.slots m.st.at.0 b0) (enter (own m.st.at.0 w)) B (λ _. B) _ (λ _. expr-is s env l g m (head_at p (EA.Is g) m e at0) o)
+      (runs_if Γ env cap room m (expr_of (suc l) s env m) (leave_of m.st.slots m.st.at.0 b0) (enter (own m.st.at.0 w)) B (λ _. B) _ (λ _. expr-is s env l g m (head_at p (Some g) m e at0) o)
       (runs_expr Γ env cap room m b0 m.st.at.0 (p + n) w B (λ c. still_body (E s env l) (stay_e s env l) (P s env l) (stay_p s env l) s env g m0 c) (body m0 (enter-at m.st ∙ at0))))
 
-  as_pred : (l p n : ℕ) (g : PredHead) (w : W U) (B : List ℕ) → pred_head s (H.place p) ≡ PA.Is g
+  as_pred : (l p n : ℕ) (g : PredHead) (w : W U) (B : List ℕ) → pred_head s (H.place p) ≡ Some g
       → ((m : Mach) → m.st.at.0 ≡ p → Runs Γ env cap room m (pred_body_by (E s env l) (P s env l) s env g m) w B (λ _. B) (λ _ v. v.st.at.0 ≡ p + n))
       → (m : Mach) → m.st.at.0 ≡ p → Runs Γ env cap room m (pred_of (suc l) s env m) (enter w) B (λ _. B) (λ _ v. v.st.at.0 ≡ p + n)
   as_pred l p n g w B e body m at0 =
       let m0 : Mach = with_st (paid_of m.st) m in
       let b0 : Mach = pred_body_by (E s env l) (P s env l) s env g m0 in
-      runs_if Γ env cap room m (pred_of (suc l) s env m) b0 (enter w) B (λ _. B) _ (λ _. pred_is s env l g m (pred_head-at p (PA.Is g) m e at0))
+      runs_if Γ env cap room m (pred_of (suc l) s env m) b0 (enter w) B (λ _. B) _ (λ _. pred_is s env l g m (pred_head-at p (Some g) m e at0))
       (runs_enter Γ env cap room m b0 w B (λ _. B) (λ _ v. v.st.at.0 ≡ p + n) (λ c. ap (λ (x : Mach). x.st.stop) (still_pbody (E s env l) (stay_e s env l) (P s env l) (stay_p s env l) s env g m0 c)) (body m0 (paid-at m.st ∙ at0)))
 
-  as_explicit : (l p n f : ℕ) (i : Place) (w : W ℕ) (B : List ℕ) → expr_head max_names s false (H.place p) ≡ EA.Is (Explicit i)
+  as_explicit : (l p n f : ℕ) (i : Place) (w : W ℕ) (B : List ℕ) → expr_head max_names s false (H.place p) ≡ Some (Explicit i)
       → ((m : Mach) → Runs Γ env cap room m (typed_by (E s env l) s i m) w B (λ _. B) (λ r v. Came (p + n) f r v))
       → (m : Mach) → m.st.at.0 ≡ p → Runs Γ env cap room m (expr_of (suc l) s env m) (enter w) B (λ _. B) (λ r v. Came (p + n) f r v)
   as_explicit l p n f i w B e body m at0 =
       let m0 : Mach = with_st (paid_of m.st) m in
       let b0 : Mach = typed_by (E s env l) s i m0 in
-      runs_if Γ env cap room m (expr_of (suc l) s env m) b0 (enter w) B (λ _. B) _ (λ _. explicit-is s env l i m (head_at p (EA.Is (Explicit i)) m e at0))
+      runs_if Γ env cap room m (expr_of (suc l) s env m) b0 (enter w) B (λ _. B) _ (λ _. explicit-is s env l i m (head_at p (Some (Explicit i)) m e at0))
       (runs_enter Γ env cap room m b0 w B (λ _. B) (λ r v. Came (p + n) f r v) (λ c. ap (λ (x : Mach). x.st.stop) (still_explicit (E s env l) (stay_e s env l) s i m0 c)) (body m0))
 
   -- the place in the tree is the place in the stream

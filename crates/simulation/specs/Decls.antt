@@ -1,7 +1,8 @@
 -- Ascriptions and declarations: what a spelled type or 4F asks, and declarations one after the other, the last declared innermost.
 -- After this file `ascription_of` and `declare_of` run the walk's `ascription` and `declare` where the bytes spell them.
+use Rattle.types.specs.declared.Place.{Place}
 use Prim.Native.Nat.{ℕ, suc, ◌+◌, ◌-◌, ◌≤◌, ◌<◌}
-use Rattle.std.specs.Prelude.{◌≡◌, Bool, true, false, get_or, eqb, ltb}
+use Rattle.std.specs.Prelude.{◌≡◌, Bool, true, false, get_or, eqb, ltb, Option, Some}
 use Rattle.std.proofs.Math.Path.{refl, sym, ap, subst}
 use Rattle.std.proofs.Common.{◌∙◌, length-set, get_or-set_same, lt-ltb, eq-eqb, ne_eqb}
 use mathlib.Core.List.{List, [], ◌∷◌, ◌++◌}
@@ -15,12 +16,8 @@ use Rattle.formula.specs.Spell.{spell_spelling, spell_decl, spell_decls, size_de
 use Rattle.formula_laws.specs.Fits.{FitsTy, FitsSpelling, FitsDecl, FitsDecls}
 use Rattle.formula_laws.specs.Sizes.{length_decl}
 use Rattle.formula_laws.specs.Complete.{byte_here, head_plain, head-typed, head-annotated}
-use Rattle.heads.specs.declared.Byte.{Byte}
-use Rattle.heads.specs.declared.Byte.TheVariants.{Of}
 use Rattle.heads.specs.declared.DeclHead.{DeclHead}
 use Rattle.heads.specs.declared.DeclHead.TheVariants.{Plain, Typed, Annotated}
-use Rattle.heads.specs.declared.DeclAt.{DeclAt}
-use Rattle.heads.specs.declared.DeclAt.TheVariants.{Is}
 use Rattle.types.specs.Record.{reach}
 use Rattle.heads.specs.Heads.{place, byte_at, decl_head, decl_end}
 use Rattle.heads.specs.Reads.{reach-all}
@@ -32,14 +29,14 @@ use Rattle.unification.proofs.Exec.{exec_nil}
 use Rattle.walk.specs.Writer.{Row, find, done, ◌>>=◌, enter, own, unknown, problem}
 use Rattle.walk.specs.Walk.{meets, spelled, ascription, claim, at_decl, declare, over}
 use Rattle.inference.specs.Finish.{names}
-use Rattle.machine.specs.declared.State.{State}
+use Rattle.machine.specs.State.{State}
 use Rattle.forms.specs.Forms.{test, then}
 use Rattle.machine.specs.Machine.{Mach, with_st, cell, put_of, stopped_of, placed_of, arrived_of, bound_of, left_of, paid_of, enter_of, make_of, list_of, leave_of, push_bound_of}
 use Rattle.machine.specs.Types.{meets_of, spelled_of, ascription_by, ascription_of, annotation_by, claim_of, declaration_by, declaration_of, times_of, declare_of}
 use Rattle.simulation.specs.Relation.{Books, Ended, Runs}
 use Rattle.simulation.specs.Bind.{runs_bind}
-use Rattle.simulation.specs.Stand.{test_yes, test_no, standing, placed_eq, runs_if, runs_map, runs_stand}
-use Rattle.simulation.specs.Still.{still_make, still_placed, still_claim, still_push, still_declare, still_within}
+use Rattle.simulation.specs.Stand.{standing, placed_eq, runs_if, runs_map, runs_stand}
+use Rattle.machine.specs.Still.{test_yes, test_no, still_make, still_placed, still_claim, still_push, still_declare, still_within}
 use Rattle.simulation.specs.Steps.{runs_after, runs_then, runs_prior}
 use Rattle.simulation.specs.Output.{assoc}
 use Rattle.simulation.specs.Nodes.{Came, Gave, Stood, runs_make, runs_list}
@@ -132,17 +129,17 @@ module _ (Γ : Env) (env : List ℕ) (cap room : ℕ) (wide : cap ≤ 32768) (br
   placed_at e m g = ap (λ (v : State). with_st v m) (placed_eq e m.st g)
 
   -- ---- heads where the bytes are known
-  byte_first : (p k : ℕ) (l : List ℕ) → drop p s ≡ k ∷ l → byte_at (reach s) (place p) ≡ Of k (place (p + 1))
+  byte_first : (p k : ℕ) (l : List ℕ) → drop p s ≡ k ∷ l → byte_at (reach s) (place p) ≡ Some (k, place (p + 1))
   byte_first p k l e = ap (λ (z : List ℕ). byte_at z (place p)) (reach-all s (omega arith)) ∙ byte_here s p k l e
 
-  decl_first : (z : Decl) (p : ℕ) (rest : List ℕ) → drop p s ≡ kind z ∷ rest → decl_head (reach s) (place p) ≡ Is (opening z (p + 1))
+  decl_first : (z : Decl) (p : ℕ) (rest : List ℕ) → drop p s ≡ kind z ∷ rest → decl_head (reach s) (place p) ≡ Some (opening z (p + 1))
   unfolding kind opening
   decl_first (plain r) p rest e = ap (λ (z : List ℕ). decl_head z (place p)) (reach-all s (omega arith)) ∙ head_plain s p rest e
   decl_first (typed r t) p rest e = ap (λ (z : List ℕ). decl_head z (place p)) (reach-all s (omega arith)) ∙ head-typed s p rest e
   decl_first (annotated r x) p rest e = ap (λ (z : List ℕ). decl_head z (place p)) (reach-all s (omega arith)) ∙ head-annotated s p rest e
 
   -- a type's first byte is not 4F
-  type-first : (t : Ty) (rest : List ℕ) (p : ℕ) → drop p s ≡ spell t ++ rest → (k : ℕ) × (byte_at (reach s) (place p) ≡ Of k (place (p + 1))) × (k ≡ 0x4F → ⊥)
+  type-first : (t : Ty) (rest : List ℕ) (p : ℕ) → drop p s ≡ spell t ++ rest → (k : ℕ) × (byte_at (reach s) (place p) ≡ Some (k, place (p + 1))) × (k ≡ 0x4F → ⊥)
   unfolding spell spell_atom
   type-first (base bool) rest p e = (0x40, byte_first p 0x40 rest e, λ q. omega arith)
   type-first (base int) rest p e = (0x41, byte_first p 0x41 rest e, λ q. omega arith)
@@ -151,13 +148,13 @@ module _ (Γ : Env) (env : List ℕ) (cap room : ℕ) (wide : cap ≤ 32768) (br
   type-first (prod t u) rest p e = (0x44, byte_first p 0x44 ((spell t ++ spell u) ++ rest) e, λ q. omega arith)
 
   -- ---- an ascription
-  asc_none : (x p : ℕ) (m : Mach) → byte_at (reach s) m.st.at ≡ Of 0x4F (place (m.st.at.0 + 1)) → ascription_of s env x p m ≡ placed (m.st.at.0 + 1) (list_of 0 m.st.at.0 0xFFFF m)
+  asc_none : (x p : ℕ) (m : Mach) → byte_at (reach s) m.st.at ≡ Some (0x4F, place (m.st.at.0 + 1)) → ascription_of s env x p m ≡ placed (m.st.at.0 + 1) (list_of 0 m.st.at.0 0xFFFF m)
   unfolding ascription_of ascription_by then test
-  asc_none x p m e = ap (λ (b : Byte). ascription_by s env x p b m) e
+  asc_none x p m e = ap (λ (b : Option (ℕ × Place)). ascription_by s env x p b m) e
 
-  asc_type : (x p k : ℕ) (m : Mach) → byte_at (reach s) m.st.at ≡ Of k (place (m.st.at.0 + 1)) → (k ≡ 0x4F → ⊥) → ascription_of s env x p m ≡ spelled_of s env x m.st.at.0 p m
+  asc_type : (x p k : ℕ) (m : Mach) → byte_at (reach s) m.st.at ≡ Some (k, place (m.st.at.0 + 1)) → (k ≡ 0x4F → ⊥) → ascription_of s env x p m ≡ spelled_of s env x m.st.at.0 p m
   unfolding ascription_of ascription_by then
-  asc_type x p k m e h = ap (λ (b : Byte). ascription_by s env x p b m) e ∙ test_no (eqb k 0x4F) _ _ (ne_eqb k 0x4F h)
+  asc_type x p k m e h = ap (λ (b : Option (ℕ × Place)). ascription_by s env x p b m) e ∙ test_no (eqb k 0x4F) _ _ (ne_eqb k 0x4F h)
 
   pub runs_ascription : (z : Spelling) (d x p : ℕ) (m : Mach) (B rest : List ℕ) → FitsSpelling most d z → drop m.st.at.0 s ≡ spell_spelling z ++ rest
       → Runs Γ env cap room m (ascription_of s env x p m) (ascription Γ z x m.st.at.0 p) B (λ _. B) (To m (length (spell_spelling z)))
@@ -183,13 +180,13 @@ module _ (Γ : Env) (env : List ℕ) (cap room : ℕ) (wide : cap ≤ 32768) (br
   unfolding claim_of
   claim-typed e x p m = refl
 
-  claim-none : (e x p : ℕ) (m : Mach) → byte_at (reach s) m.st.at ≡ Of 0x4F (place (m.st.at.0 + 1)) → claim_of s env (Annotated (place e)) x p m ≡ placed (m.st.at.0 + 1) m
+  claim-none : (e x p : ℕ) (m : Mach) → byte_at (reach s) m.st.at ≡ Some (0x4F, place (m.st.at.0 + 1)) → claim_of s env (Annotated (place e)) x p m ≡ placed (m.st.at.0 + 1) m
   unfolding claim_of annotation_by then test
-  claim-none e x p m h = ap (λ (b : Byte). annotation_by s env x p b m) h
+  claim-none e x p m h = ap (λ (b : Option (ℕ × Place)). annotation_by s env x p b m) h
 
-  claim-spelled : (e x p k : ℕ) (m : Mach) → byte_at (reach s) m.st.at ≡ Of k (place (m.st.at.0 + 1)) → (k ≡ 0x4F → ⊥) → claim_of s env (Annotated (place e)) x p m ≡ spelled_of s env x p p m
+  claim-spelled : (e x p k : ℕ) (m : Mach) → byte_at (reach s) m.st.at ≡ Some (k, place (m.st.at.0 + 1)) → (k ≡ 0x4F → ⊥) → claim_of s env (Annotated (place e)) x p m ≡ spelled_of s env x p p m
   unfolding claim_of annotation_by then
-  claim-spelled e x p k m h n = ap (λ (b : Byte). annotation_by s env x p b m) h ∙ test_no (eqb k 0x4F) _ _ (ne_eqb k 0x4F n)
+  claim-spelled e x p k m h n = ap (λ (b : Option (ℕ × Place)). annotation_by s env x p b m) h ∙ test_no (eqb k 0x4F) _ _ (ne_eqb k 0x4F n)
 
   runs_claim : (z : Decl) (d x p n : ℕ) (m : Mach) (B rest : List ℕ) → FitsDecl most d z → PlacedDecl p z → drop m.st.at.0 s ≡ after_kind z ++ rest
       → Runs Γ env cap room m (claim_of s env (opening z n) x p m) (claim Γ z x) B (λ _. B) (To m (length (after_kind z)))
@@ -273,10 +270,10 @@ module _ (Γ : Env) (env : List ℕ) (cap room : ℕ) (wide : cap ≤ 32768) (br
   abbrev Owned : Mach → Mach
   Owned m = leave_of m.st.slots m.st.at.0 (Fresh m)
 
-  declaration_is : (m : Mach) (h : DeclHead) → decl_head (reach s) m.st.at ≡ Is h → (decl_end h).0 ≡ m.st.at.0 + 1 → declaration_of s env m ≡ claim_of s env h (Fresh m).st.last.0 m.st.at.0 (push_bound_of (Owned m))
+  declaration_is : (m : Mach) (h : DeclHead) → decl_head (reach s) m.st.at ≡ Some h → (decl_end h).0 ≡ m.st.at.0 + 1 → declaration_of s env m ≡ claim_of s env h (Fresh m).st.last.0 m.st.at.0 (push_bound_of (Owned m))
   unfolding declaration_of declaration_by then
   declaration_is m h e q =
-      ap (λ (k : DeclAt). declaration_by s env k m) e
+      ap (λ (k : Option DeclHead). declaration_by s env k m) e
       ∙ ap (λ (j : ℕ). (let b = make_of 0x4E 0 0 (placed j (Started m)) in claim_of s env h b.st.last.0 m.st.at.0 (push_bound_of (leave_of m.st.slots m.st.at.0 b)))) q
 
   owned_runs : (m : Mach) (B : List ℕ) → Runs Γ env cap room m (Owned m) (enter (own m.st.at.0 unknown)) B (λ _. B) (λ r v. Came (m.st.at.0 + 1) m.st.at.0 r v)

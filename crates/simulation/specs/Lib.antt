@@ -1,7 +1,6 @@
 pub mod Relation
 pub mod Bind
 pub mod Stand
-pub mod Still
 pub mod Output
 pub mod Nodes
 pub mod Steps
@@ -13,7 +12,6 @@ pub mod Lift
 pub mod Names
 pub mod Stream
 pub mod Decls
-pub mod StillWalk
 pub mod Shapes
 pub mod Children
 pub mod Gathers

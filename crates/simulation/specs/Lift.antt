@@ -16,14 +16,14 @@ use Rattle.formula.specs.Environment.{Env}
 use Rattle.unification.specs.Make.{builds_boolean, builds_integer, builds_given, builds_power, builds_pair}
 use Rattle.walk.specs.Writer.{◌>>=◌, power, pair}
 use Rattle.walk.specs.Walk.{atom, lift}
-use Rattle.machine.specs.declared.State.{State}
+use Rattle.machine.specs.State.{State}
 use Rattle.forms.specs.Forms.{then}
 use Rattle.machine.specs.Machine.{Mach, with_st, passed_of, make_of}
 use Rattle.machine.specs.Types.{type_head, atom_of, lift_by, lift_of}
 use Rattle.simulation.specs.Relation.{Runs}
 use Rattle.simulation.specs.Bind.{runs_bind}
-use Rattle.simulation.specs.Stand.{test_yes, standing, passed_eq, runs_if, runs_map}
-use Rattle.simulation.specs.Still.{still_make, still_lift}
+use Rattle.simulation.specs.Stand.{standing, passed_eq, runs_if, runs_map}
+use Rattle.machine.specs.Still.{test_yes, still_make, still_lift}
 use Rattle.simulation.specs.Steps.{runs_after}
 use Rattle.simulation.specs.Output.{assoc}
 use Rattle.simulation.specs.Nodes.{Came, runs_make}

@@ -18,14 +18,14 @@ use Rattle.unification.specs.Make.{builds_unknown}
 use Rattle.walk.specs.Writer.{Met, Row, Found, at, absent, found, find, Walk, W, done, glue, ◌>>=◌, node, unknown, problem, enrol}
 use Rattle.walk.specs.Walk.{atom, lift, from_env, known, counted, name}
 use Rattle.inference.specs.Finish.{Question, ask_name, names}
-use Rattle.machine.specs.declared.State.{State}
+use Rattle.machine.specs.State.{State}
 use Rattle.forms.specs.Forms.{test, then}
 use Rattle.machine.specs.Machine.{Mach, with_st, cell, put_of, placed_of, gave_of, met_of, make_of, list_of, remember_of, enrol_of}
 use Rattle.machine.specs.Types.{lift_of, free_of, bound_identifier_of}
 use Rattle.simulation.specs.Relation.{Stands, Noted, Listed, Opened, Entered, Books, Ended, Runs, unmet, missing}
 use Rattle.simulation.specs.Bind.{runs_bind}
-use Rattle.simulation.specs.Stand.{test_yes, test_no, standing, placed_eq, gave_eq, stands-standing, books_standing, runs_if, runs_map, runs_stand}
-use Rattle.simulation.specs.Still.{still_make, still_remember, still_enrol, still_placed}
+use Rattle.simulation.specs.Stand.{standing, placed_eq, gave_eq, stands-standing, books_standing, runs_if, runs_map, runs_stand}
+use Rattle.machine.specs.Still.{test_yes, test_no, still_make, still_remember, still_enrol, still_placed}
 use Rattle.simulation.specs.Steps.{nil_right, runs_given, runs_after}
 use Rattle.simulation.specs.Nodes.{Came, Stood, runs_make, runs_list}
 use Rattle.simulation.specs.Slots.{noted-kept, listed_kept, opened-kept, entered_kept, filled-kept, two_others}

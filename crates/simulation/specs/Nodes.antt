@@ -20,11 +20,12 @@ use Rattle.unification.proofs.Exec.{exec_nil, exec-made, exec_no_room, exec-comp
 use Rattle.walk.specs.Writer.{Row, node, same, problem}
 use Rattle.inference.specs.Answer.{spell_problems}
 use Rattle.inference.specs.Finish.{walk_problems}
-use Rattle.machine.specs.declared.State.{State}
+use Rattle.machine.specs.State.{State}
 use Rattle.forms.specs.Forms.{then}
 use Rattle.machine.specs.Machine.{Mach, with_st, with_arena, stopped_of, left_of, grown_of, grown_by, make_of, judged_by, settled_by, expect_of, list_of}
 use Rattle.simulation.specs.Relation.{Wrote, Stands, Books, Ended, Runs}
-use Rattle.simulation.specs.Stand.{test_yes, books_as, no_slots}
+use Rattle.machine.specs.Still.{test_yes}
+use Rattle.simulation.specs.Stand.{books_as, no_slots}
 use Rattle.simulation.specs.Output.{spoken, Spoke, nameless_problem, list_spoke, problems-more}
 
 -- where a piece ends: at p, having come from f; a result stands as the last reference

@@ -9,11 +9,11 @@ use Rattle.std.proofs.Math.Decide.{dec_lt, dec_le}
 use Rattle.std.proofs.Math.ListN.{set}
 use Rattle.inference.specs.Answer.{Problem, two, four, spell_problem, spell_problems, nameless}
 use Rattle.inference.specs.Finish.{walk_problems}
-use Rattle.machine.specs.declared.State.{State}
+use Rattle.machine.specs.State.{State}
 use Rattle.forms.specs.Forms.{then}
 use Rattle.machine.specs.Machine.{Mach, with_st, bytes_of, over_of, emit_of, two_of, four_of, list_of}
 use Rattle.simulation.specs.Relation.{Wrote}
-use Rattle.simulation.specs.Stand.{test_yes, test_no}
+use Rattle.machine.specs.Still.{test_yes, test_no}
 use Rattle.simulation.specs.Steps.{nil_right}
 
 -- the machine with another output

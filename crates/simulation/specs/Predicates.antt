@@ -23,13 +23,14 @@ use Rattle.walk.specs.Walk.{loose, each, declare, over, walk, walk_all, walk_pre
 use Rattle.forms.specs.Forms.{then}
 use Rattle.machine.specs.Machine.{Mach, with_st, bound_of, list_of}
 use Rattle.machine.specs.Types.{declare_of, times_of}
-use Rattle.operators.specs.Operators.{finite, check_relational_of}
+use Rattle.operators.specs.declared.Script.TheVariants as Sc
+use Rattle.operators.specs.Operators.{check_relational_of}
 use Rattle.walker.specs.Walk.{one_by, two_by, all_by, multiple_plan, application_plan, pred_quant_by, pred_body_by}
 use Rattle.simulation.specs.Relation.{Runs}
 use Rattle.simulation.specs.Bind.{runs_bind}
 use Rattle.simulation.specs.Stand.{runs_map, runs_stand}
-use Rattle.simulation.specs.Still.{still_bound, still_within, still_times}
-use Rattle.simulation.specs.StillWalk.{Still}
+use Rattle.machine.specs.Still.{still_bound, still_within, still_times}
+use Rattle.walker.specs.StillWalk.{Still}
 use Rattle.simulation.specs.Steps.{told, nil_right, runs_same, runs_given, runs_told}
 use Rattle.simulation.specs.Decls.{runs_declare}
 use Rattle.simulation.specs.Perform.{relational-tied, simple-tied}
@@ -166,12 +167,12 @@ module _ (Γ : Env) (env : List ℕ) (cap room : ℕ) (wide : cap ≤ 32768) (br
     unfolding pred_body_by then scripted
     simple_body a ga m at0 =
         let m1 : Mach = stood (p + 1) m in
-        let F : Mach = one_by E finite p m1 in
+        let F : Mach = one_by E Sc.Finite p m1 in
         let C : ℕ → W ℕ = (λ x. perform simple_script only (three 0 x 0) (three p (place a) 0)) in
-        on-from Γ env cap room (p + 1) p (one_by E finite) m _ _ B (λ _. B) (λ _ v. v.st.at.0 ≡ p + (1 + size a)) at0 refl
+        on-from Γ env cap room (p + 1) p (one_by E Sc.Finite) m _ _ B (λ _. B) (λ _ v. v.st.at.0 ≡ p + (1 + size a)) at0 refl
         (λ g a1. runs_same Γ env cap room m1 F (told gone (walk Γ a B >>= C)) (walk Γ a B >>= λ x. C x >>= λ _. done tt) B (λ _. B) _ (one_dropped (walk Γ a B) C)
         (runs_told Γ env cap room m1 F gone (walk Γ a B >>= C) B B _ _ (λ r y. y.0 ∙ omega arith)
-        (runs_one Γ env cap room wide E stays B a (p + 1) ga finite (scripted simple_script only) p simple-tied m1 a1)))
+        (runs_one Γ env cap room wide E stays B a (p + 1) ga Sc.Finite (scripted simple_script only) p simple-tied m1 a1)))
 
     pub multiple_body : (es : Exprs) → AllGo Γ env cap room wide E stays B es (p + 3)
         → Body (Multiple (exprs es) (H.place (p + 3))) (unknown >>= λ x. power x >>= λ z. walk_all Γ es (each z) B >>= λ _. done tt) (3 + size_all es)

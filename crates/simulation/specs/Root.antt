@@ -2,15 +2,15 @@
 -- After this file `tie-formula` says of every formula that fits: where the bytes spell it, the walk from any machine that stands there runs its operations
 -- and ends behind it.
 use Prim.Native.Nat.{ℕ, suc, ◌+◌, ◌≤◌, ◌<◌}
-use Rattle.std.specs.Prelude.{◌≡◌, length}
+use Rattle.std.specs.Prelude.{◌≡◌, length, Option, Some}
 use Rattle.std.proofs.Math.Path.{refl, ap}
 use Rattle.std.proofs.Common.{sym, ◌∙◌, ap₂, subst}
 use mathlib.Core.List.{List, [], ◌∷◌, ◌++◌}
 use native.Mathlib.Omega.{arith}
 use Rattle.std.proofs.Math.ListN.{drop}
 use Rattle.types.specs.Limits.{levels, max_depth}
-use Rattle.heads.specs.declared.RootAt.{RootAt}
-use Rattle.heads.specs.declared.RootAt.TheVariants.{Expression, Predicate, Becomes, BecomesIn, BecomesSuch}
+use Rattle.heads.specs.declared.Root.{Root}
+use Rattle.heads.specs.declared.Root.TheVariants.{Expression, Predicate, Becomes, BecomesIn, BecomesSuch}
 use Rattle.heads.specs.Heads.{root_head}
 use Rattle.heads.specs.Heads as H
 use Rattle.heads.specs.Reads.{reach-all}
@@ -30,7 +30,7 @@ use Rattle.walker.specs.Walk.{expr_of, pred_of}
 use Rattle.walker.specs.Root.{pair_by, pairs_of, becomes_in_of, becomes_such_of, root_by, formula_of}
 use Rattle.simulation.specs.Relation.{Runs}
 use Rattle.simulation.specs.Stand.{runs_if, runs_map}
-use Rattle.simulation.specs.Still.{Halted, still_placed, still_times, still_bound, still_within}
+use Rattle.machine.specs.Still.{Halted, still_placed, still_times, still_bound, still_within}
 use Rattle.simulation.specs.Steps.{told, nil_right, runs_same, runs_told}
 use Rattle.simulation.specs.Output.{assoc}
 use Rattle.simulation.specs.Nodes.{Came}
@@ -47,32 +47,32 @@ abbrev Paid : Mach → Mach
 Paid m = with_st (paid_of m.st) m
 
 module _ (s env : List ℕ) (short : length s ≤ 65536) (m : Mach) (p : ℕ) (at0 : m.st.at.0 ≡ p) where
-  root_is : (h : RootAt) → root_head s (H.place p) ≡ h → formula_of s env m ≡ root_by s env h m
+  root_is : (h : Option Root) → root_head s (H.place p) ≡ h → formula_of s env m ≡ root_by s env h m
   unfolding formula_of then
   root_is h e =
       ap (λ (x : List ℕ). root_by s env (root_head x m.st.at) m) (reach-all s (omega arith))
       ∙ ap (λ (j : ℕ). root_by s env (root_head s (H.place j)) m) at0
-      ∙ ap (λ (g : RootAt). root_by s env g m) e
+      ∙ ap (λ (g : Option Root). root_by s env g m) e
 
   formula-expr : (k : ℕ) (rest : List ℕ) → k < 0x20 → drop p s ≡ k ∷ rest → formula_of s env m ≡ expr_of levels s env m
   unfolding root_by
-  formula-expr k rest l e = root_is Expression (head-expression s p k rest l e)
+  formula-expr k rest l e = root_is (Some Expression) (head-expression s p k rest l e)
 
   formula_pred : (k : ℕ) (rest : List ℕ) → 0x20 ≤ k → k < 0x30 → drop p s ≡ k ∷ rest → formula_of s env m ≡ pred_of levels s env m
   unfolding root_by
-  formula_pred k rest h l e = root_is Predicate (head-predicate s p k rest h l e)
+  formula_pred k rest h l e = root_is (Some Predicate) (head-predicate s p k rest h l e)
 
   formula-becomes : (n : ℕ) (rest : List ℕ) → 1 ≤ n → drop p s ≡ 0x30 ∷ n ∷ rest → formula_of s env m ≡ pairs_of s env n (stood (p + 2) (Paid m))
   unfolding root_by then
-  formula-becomes n rest i e = root_is (Becomes n (H.place (p + 2))) (head-becomes s p n rest i e)
+  formula-becomes n rest i e = root_is (Some (Becomes n (H.place (p + 2)))) (head-becomes s p n rest i e)
 
   formula-becomes_in : (n : ℕ) (rest : List ℕ) → 1 ≤ n → drop p s ≡ 0x31 ∷ n ∷ rest → formula_of s env m ≡ becomes_in_of s env n (stood (p + 2) (Paid m))
   unfolding root_by then
-  formula-becomes_in n rest i e = root_is (BecomesIn n (H.place (p + 2))) (head-becomes_in s p n rest i e)
+  formula-becomes_in n rest i e = root_is (Some (BecomesIn n (H.place (p + 2)))) (head-becomes_in s p n rest i e)
 
   formula-becomes_such : (n : ℕ) (rest : List ℕ) → 1 ≤ n → drop p s ≡ 0x32 ∷ n ∷ rest → formula_of s env m ≡ becomes_such_of s env n p (stood (p + 2) (Paid m))
   unfolding root_by then
-  formula-becomes_such n rest i e = root_is (BecomesSuch n (H.place (p + 2))) (head-becomes_such s p n rest i e) ∙ ap (λ (j : ℕ). becomes_such_of s env n j (stood (p + 2) (Paid m))) at0
+  formula-becomes_such n rest i e = root_is (Some (BecomesSuch n (H.place (p + 2)))) (head-becomes_such s p n rest i e) ∙ ap (λ (j : ℕ). becomes_such_of s env n j (stood (p + 2) (Paid m))) at0
 
 abbrev gone : ℕ → U
 gone _ = tt

@@ -1,6 +1,6 @@
 -- The shapes of the walk's rules: one expression and a script, two and a script. Rows of expressions stand in `Children` and `Gathers`.
 -- Each is shown for any walk of an expression one level below.
-use Rattle.std.specs.Prelude.{ℕ, ◌+◌, ◌≤◌, ◌≡◌, refl, true, List, [], ◌∷◌}
+use Rattle.std.specs.Prelude.{ℕ, ◌+◌, ◌≤◌, ◌≡◌, refl, List, [], ◌∷◌}
 use Rattle.std.proofs.Common.{sym, ◌∙◌, subst, arith}
 use Rattle.std.proofs.Math.Path.{ap, ap₂}
 use Rattle.formula.specs.Environment.{Env}
@@ -11,22 +11,24 @@ use Rattle.unification.specs.Ops.{make}
 use Rattle.walk.specs.Writer.{Row, W, glue, ◌>>=◌, node, unknown, power, UNKNOWN, POWER, PRODUCT}
 use Rattle.walk.specs.Scripts.{new, an_unknown, a_power, a_pair, Script, scripted, pick, play, perform, three, left, right}
 use Rattle.walk.specs.Walk.{Mode, loose, each, links, relation, walk}
-use Rattle.machine.specs.declared.State.{State}
+use Rattle.machine.specs.State.{State}
+use Rattle.operators.specs.declared.Script as MS
+use Rattle.operators.specs.declared.Script.TheVariants as S
+use Rattle.operators.specs.declared.Mode.TheVariants.{Loose, Same, Linked}
 use Rattle.operators.specs.declared.Plan.{Plan}
-use Rattle.forms.specs.Forms.{test, then}
-use Rattle.operators.specs.Tables.{deeds_t, lefts_t, rights_t, places_t, starts_t, gives_t}
+use Rattle.operators.specs.Scripts.{items_in, given_by}
+use Rattle.forms.specs.Forms.{then}
 use Rattle.machine.specs.Machine.{Mach, with_st, gave_of}
-use Rattle.operators.specs.Operators.{script_at, item_at}
 use Rattle.machine.specs.Scripts.{chosen_of, parts_of, items_of, play_of}
 use Rattle.walker.specs.Walk.{one_by, two_by}
 use Rattle.simulation.specs.Relation.{Runs}
 use Rattle.simulation.specs.Bind.{runs_bind}
 use Rattle.simulation.specs.Stand.{runs_map}
-use Rattle.simulation.specs.Still.{still_play}
-use Rattle.simulation.specs.StillWalk.{Still}
+use Rattle.machine.specs.Still.{still_play}
+use Rattle.walker.specs.StillWalk.{Still}
 use Rattle.simulation.specs.Steps.{told}
 use Rattle.simulation.specs.Nodes.{Came, Gave}
-use Rattle.simulation.specs.Play.{code, within, agree, agrees, tied, items}
+use Rattle.simulation.specs.Play.{ref_of, seat_of, item_as, items_as, script_as, within, fits, all_fit, script_fits, Tied, items}
 use Rattle.simulation.specs.Perform.{three_chosen, three-placed, two-placed, runs_perform}
 
 -- ---- pieces that a script performs, otherwise written
@@ -59,23 +61,23 @@ unfoldable pub link_as : Way → Script
 link_as forward = scripted (an_unknown ∷ a_pair left (new 0) ∷ a_power (new 1) ∷ []) (new 2)
 link_as backward = scripted (an_unknown ∷ a_pair (new 0) left ∷ a_power (new 1) ∷ []) (new 2)
 
-unfoldable pub link_number : Way → ℕ
-link_number forward = 39
-link_number backward = 40
+unfoldable pub link_script : Way → MS.Script
+link_script forward = S.Forth
+link_script backward = S.Back
 
-unfoldable pub end_number : Way → ℕ
-end_number forward = 41
-end_number backward = 42
+unfoldable pub end_script : Way → MS.Script
+end_script forward = S.ForthAll
+end_script backward = S.BackAll
 
-pub link-tied : (way : Way) → tied 3 0 (link_number way) (link_as way) ≡ true
-unfolding tied agrees agree within code script_at item_at deeds_t lefts_t rights_t places_t starts_t gives_t test scripted link_as link_number
-link-tied forward = refl
-link-tied backward = refl
+pub link-tied : (way : Way) → Tied 3 0 (link_script way) (link_as way)
+unfolding script_as items_as item_as ref_of seat_of items_in given_by script_fits all_fit fits within scripted link_as link_script
+link-tied forward = (refl, refl)
+link-tied backward = (refl, refl)
 
-pub end-tied : (way : Way) → tied 3 0 (end_number way) (ends_as way) ≡ true
-unfolding tied agrees agree within code script_at item_at deeds_t lefts_t rights_t places_t starts_t gives_t test scripted ends_as end_number
-end-tied forward = refl
-end-tied backward = refl
+pub end-tied : (way : Way) → Tied 3 0 (end_script way) (ends_as way)
+unfolding script_as items_as item_as ref_of seat_of items_in given_by script_fits all_fit fits within scripted ends_as end_script
+end-tied forward = (refl, refl)
+end-tied backward = (refl, refl)
 
 linked-at : {A : Type 0} (way : Way) (s : ℕ) (places : ℕ → ℕ) (K : ℕ → ℕ → W A) (n : ℕ) (row : Row)
     → (told (λ _. pick (three 0 s s) n (link_as way).gives) (items (three 0 s s) places n (link_as way).items) >>= λ y. K n y) n row ≡ (unknown >>= λ t. relation way s t >>= λ y. K t y) n row
@@ -99,8 +101,8 @@ linked-is way s places K n0 n row e =
     subst (λ (k : ℕ). (told (λ _. pick (three 0 s s) k (link_as way).gives) (items (three 0 s s) places k (link_as way).items) >>= λ y. K k y) n row ≡ (unknown >>= λ t. relation way s t >>= λ y. K t y) n row) (sym e) (linked-at way s places K n row)
 
 -- the script of no items gives the left part
-pub play-nothing : (x pl y pr q : ℕ) (v : State) (m : Mach) → play_of 0 (parts_of x pl y pr q v) m ≡ with_st (gave_of x m.st) m
-unfolding play_of script_at starts_t gives_t items_of chosen_of parts_of then test
+pub play-nothing : (x pl y pr q : ℕ) (v : State) (m : Mach) → play_of S.Nothing (parts_of x pl y pr q v) m ≡ with_st (gave_of x m.st) m
+unfolding play_of items_in given_by items_of chosen_of parts_of then
 play-nothing x pl y pr q v m = refl
 
 pub parts-base : (x pl y pr q : ℕ) (v : State) → (parts_of x pl y pr q v).base ≡ v.nodes
@@ -109,9 +111,9 @@ parts-base x pl y pr q v = refl
 
 -- ---- how a plan's child is compared
 unfoldable pub Moded : Plan → ℕ → Mode → Type 0
-Moded p y loose = (p.link ≡ 0) × (p.mode ≡ 0)
-Moded p y (each x) = (p.link ≡ 0) × (p.mode ≡ 1) × (y ≡ x)
-Moded p y (links way x) = (p.link ≡ link_number way) × (p.mode ≡ 2) × (y ≡ x)
+Moded p y loose = (p.link ≡ S.Nothing) × (p.mode ≡ Loose)
+Moded p y (each x) = (p.link ≡ S.Nothing) × (p.mode ≡ Same) × (y ≡ x)
+Moded p y (links way x) = (p.link ≡ link_script way) × (p.mode ≡ Linked) × (y ≡ x)
 
 module _ (Γ : Env) (env : List ℕ) (cap room : ℕ) (wide : cap ≤ 32768) where
   -- an expression's walk at p
@@ -119,7 +121,7 @@ module _ (Γ : Env) (env : List ℕ) (cap room : ℕ) (wide : cap ≤ 32768) whe
   Goes E e B p = (m : Mach) → m.st.at.0 ≡ p → Runs Γ env cap room m (E m) (walk Γ e B) B (λ _. B) (λ r v. Came (p + size e) (place e) r v)
 
   module _ (E : Mach → Mach) (stays : Still E) (B : List ℕ) where
-    pub runs_one : (e : Expr) (p : ℕ) → Goes E e B p → (n : ℕ) (sc : Script) (q : ℕ) → tied 3 2 n sc ≡ true → (m : Mach) → m.st.at.0 ≡ p
+    pub runs_one : (e : Expr) (p : ℕ) → Goes E e B p → (n : MS.Script) (sc : Script) (q : ℕ) → Tied 3 2 n sc → (m : Mach) → m.st.at.0 ≡ p
         → Runs Γ env cap room m (one_by E n q m) (walk Γ e B >>= λ x. perform sc.items sc.gives (three 0 x 0) (three q (place e) 0)) B (λ _. B) (λ r v. Gave (p + size e) r v)
     unfolding one_by then
     runs_one e p goes n sc q t m at0 =
@@ -133,7 +135,7 @@ module _ (Γ : Env) (env : List ℕ) (cap room : ℕ) (wide : cap ≤ 32768) whe
         (λ i l. two-placed a.st.last.0 a.st.from.0 0 q q 0 a.st i l ∙ ap (λ (k : ℕ). three q k 0 i) c.1)))
         (goes m at0)
 
-    pub runs_two : (e f : Expr) (p : ℕ) → Goes E e B p → Goes E f B (p + size e) → (n : ℕ) (sc : Script) (q : ℕ) → tied 3 3 n sc ≡ true → (m : Mach) → m.st.at.0 ≡ p
+    pub runs_two : (e f : Expr) (p : ℕ) → Goes E e B p → Goes E f B (p + size e) → (n : MS.Script) (sc : Script) (q : ℕ) → Tied 3 3 n sc → (m : Mach) → m.st.at.0 ≡ p
         → Runs Γ env cap room m (two_by E n q m) (walk Γ e B >>= λ x. walk Γ f B >>= λ y. perform sc.items sc.gives (three 0 x y) (three q (place e) (place f))) B (λ _. B) (λ r v. Gave (p + size e + size f) r v)
     unfolding two_by then
     runs_two e f p goes goes' n sc q t m at0 =

@@ -30,8 +30,8 @@ use Rattle.walker.specs.Root.{share_by, shares_from, shares_of, such_that_of, be
 use Rattle.simulation.specs.Relation.{Filled, Ended, Runs}
 use Rattle.simulation.specs.Bind.{runs_bind}
 use Rattle.simulation.specs.Stand.{runs_if, runs_map, runs_stand}
-use Rattle.simulation.specs.Still.{still_expect, still_times, still_declare, still_bound, still_within}
-use Rattle.simulation.specs.StillWalk.{Still, still_expr, still_pred}
+use Rattle.machine.specs.Still.{still_expect, still_times, still_declare, still_bound, still_within}
+use Rattle.walker.specs.StillWalk.{Still, still_expr, still_pred}
 use Rattle.simulation.specs.Steps.{nil_right}
 use Rattle.simulation.specs.Output.{assoc}
 use Rattle.simulation.specs.Nodes.{Came, runs_expect}

@@ -16,12 +16,12 @@ use Rattle.unification.specs.Ops.{pay, Bench, Sound, exec}
 use Rattle.unification.proofs.Exec.{exec_unpaid, exec-paid}
 use Rattle.walk.specs.Writer.{Row, Found, at, absent, find, W, enter, own}
 use Rattle.inference.specs.Finish.{Question, names}
-use Rattle.machine.specs.declared.State.{State}
+use Rattle.machine.specs.State.{State}
 use Rattle.forms.specs.Forms.{test, then}
 use Rattle.machine.specs.Machine.{Mach, with_st, cell, put_of, stopped_of, left_of, arrived_of, paid_of, enter_of, leave_of}
 use Rattle.simulation.specs.Relation.{Stands, Noted, Listed, Opened, Entered, Filled, Books, Ended, Runs}
-use Rattle.simulation.specs.Stand.{test_yes, test_no, books_as}
-use Rattle.simulation.specs.Still.{still_leave}
+use Rattle.simulation.specs.Stand.{books_as}
+use Rattle.machine.specs.Still.{test_yes, test_no, still_leave}
 use Rattle.simulation.specs.Nodes.{Came, Gave, stop_of}
 
 -- the state with another budget and count of slots

@@ -11,24 +11,15 @@ use Rattle.unification.specs.Ops.{Bench, exec}
 use Rattle.unification.proofs.Exec.{exec_nil}
 use Rattle.walk.specs.Writer.{Row, find, Walk, W, done}
 use Rattle.inference.specs.Finish.{names}
-use Rattle.machine.specs.declared.State.{State}
-use Rattle.forms.specs.Forms.{test}
+use Rattle.machine.specs.State.{State}
 use Rattle.machine.specs.Machine.{Mach, with_st, placed_of, passed_of, gave_of}
+use Rattle.machine.specs.Still.{test_yes}
 use Rattle.simulation.specs.Relation.{Stands, Noted, Listed, Opened, Entered, Books, Slots, Ended, Runs}
 
 -- the state with another place, origin and last reference
 abbrev pub standing : ℕ → ℕ → ℕ → State → State
 standing p f r v =
     record { at = record { 0 = p }; from = record { 0 = f }; last = record { 0 = r }; nodes = v.nodes; budget = v.budget; slots = v.slots; met = v.met; bound = v.bound; bytes = v.bytes; over = v.over; stop = v.stop }
-
--- a test whose outcome is known
-pub test_yes : {A : Type 0} (c : Bool) (x y : Unit {0} → A) → c ≡ true → test c x y ≡ x tt
-unfolding test
-test_yes c x y e = rw e refl
-
-pub test_no : {A : Type 0} (c : Bool) (x y : Unit {0} → A) → c ≡ false → test c x y ≡ y tt
-unfolding test
-test_no c x y e = rw e refl
 
 -- the moves of a walk that goes on
 pub placed_eq : (p : ℕ) (v : State) → v.stop ≡ 0 → placed_of p v ≡ standing p v.from.0 v.last.0 v

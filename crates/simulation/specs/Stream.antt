@@ -19,14 +19,14 @@ use Rattle.unification.specs.Make.{builds_given, builds_power}
 use Rattle.walk.specs.Writer.{Row, W, done, ◌>>=◌, same, given_set, power}
 use Rattle.walk.specs.Walk.{lift, name, notes, meets, spelled}
 use Rattle.walk.specs.Walk as K
-use Rattle.machine.specs.declared.State.{State}
+use Rattle.machine.specs.State.{State}
 use Rattle.forms.specs.Forms.{then}
 use Rattle.machine.specs.Machine.{Mach, with_st, cell, placed_of, passed_of, make_of, expect_of}
 use Rattle.machine.specs.Types.{type_head, skip_by, skip_of, lift_of, free_of, note_of, noted_of, notes_by, notes_of, meets_of, spelled_of}
 use Rattle.simulation.specs.Relation.{Stands, Entered, Books, Runs}
 use Rattle.simulation.specs.Bind.{runs_bind}
-use Rattle.simulation.specs.Stand.{test_yes, test_no, standing, placed_eq, passed_eq, runs_if, runs_map, runs_stand}
-use Rattle.simulation.specs.Still.{still_make, still_expect, still_notes, still_meets, still_placed}
+use Rattle.simulation.specs.Stand.{standing, placed_eq, passed_eq, runs_if, runs_map, runs_stand}
+use Rattle.machine.specs.Still.{test_yes, test_no, still_make, still_expect, still_notes, still_meets, still_placed}
 use Rattle.simulation.specs.Steps.{runs_given, runs_after}
 use Rattle.simulation.specs.Output.{assoc}
 use Rattle.simulation.specs.Nodes.{Came, Stood, runs_make, runs_expect}

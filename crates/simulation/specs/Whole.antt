@@ -24,11 +24,11 @@ use Rattle.walk.proofs.Whole.{tame_formula}
 use Rattle.walk.specs.Verdict.{start}
 use Rattle.inference.specs.Answer.{spell_problems}
 use Rattle.inference.specs.Finish.{names, walk_problems}
-use Rattle.machine.specs.declared.State.{State}
+use Rattle.machine.specs.State.{State}
 use Rattle.machine.specs.Machine.{Mach, with_st, cell, bound_of}
 use Rattle.walker.specs.Root.{formula_of}
 use Rattle.simulation.specs.Relation.{Stands, Noted, Listed, Entered, Books, Slots, Ended}
-use Rattle.simulation.specs.Stand.{test_yes}
+use Rattle.machine.specs.Still.{test_yes}
 use Rattle.simulation.specs.Names.{missing-none}
 use Rattle.simulation.specs.Steps.{nil_right}
 use Rattle.simulation.specs.Decls.{test-keeps}

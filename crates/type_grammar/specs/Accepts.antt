@@ -1,7 +1,7 @@
 -- What the reader accepts denotes the type that it finds (`accepted_denotes`): with `specs/Reads`, it accepts exactly the grammar (`accepts_exactly`).
 -- A token stands where it is found: its bytes are those of the text (`token_stands`).
-use Prim.Native.Nat.{ℕ, zero, suc, ◌+◌}
-use Rattle.std.proofs.Common.{arith, ◌∙◌, subst, drop-drop, eqb-true}
+use Prim.Native.Nat.{ℕ, zero, suc, ◌+◌, ◌≤◌, ◌<◌}
+use Rattle.std.proofs.Common.{arith, ◌∙◌, subst, drop-drop, eqb-true, length-drop}
 use Rattle.std.specs.Prelude.{◌≡◌, ◌↔◌, Bool, true, false, length, eqb, Option, Some, None}
 use Rattle.std.proofs.Math.Path.{refl, sym, ap}
 use mathlib.Core.List.{List, [], ◌∷◌, ◌++◌, append_assoc, append-nil}
@@ -255,6 +255,20 @@ module _ (ns : List (List ℕ)) (s : List ℕ) where
 
   pub product-denotes : (d p : ℕ) (t : Ty) (e : ℕ) → product_of (suc d) ns s p ≡ got t e → Read ns whole d s p t e
   product-denotes d p t e h = read-product ns s d (operand-denotes d) p t e h
+
+-- × moves on, within the text
+pub times_moves : (ns : List (List ℕ)) (s : List ℕ) (p q : ℕ) → token_at ns s p ≡ Some (Times q) → (p < q) × (q ≤ length s)
+unfolding Begins
+times_moves ns s p q k =
+    let b : Begins ns p (drop p s) (Some (Times q)) = token_stands ns s p (Some (Times q)) k in
+    let w : length (drop p s) ≡ 2 + length (drop 2 (drop p s)) = ap length b.1 ∙ length-append times (drop 2 (drop p s)) in
+    (omega (arith, b.0), omega (arith, b.0, w, length-drop p s))
+
+-- an operand does not end before it begins
+pub operand_moves : (left : ℕ) (ns : List (List ℕ)) (s : List ℕ) (p : ℕ) (t : Ty) (e : ℕ) → operand_of left ns s p ≡ got t e → p ≤ e
+unfolding operand_of
+operand_moves zero ns s p t e h = deep-got p t e h
+operand_moves (suc d) ns s p t e h = let r = operand-denotes ns s d p t e h in omega (arith, r.ends)
 
 -- ---- a whole text
 

@@ -1,9 +1,10 @@
 -- The reader's second pass: the record of a text that was taken is put into a page.
 use Rattle.std.specs.Prelude.{ℕ, zero, suc, ◌+◌, ◌-◌, ◌≤◌, ◌<◌, ◌%◌, ◌/◌, ◌≡◌, refl, List, [], ◌∷◌, ◌++◌, get_or, take, drop, set, Option, Some, None}
 use native.Mathlib.Omega.{arith}
-use Rattle.std.proofs.Common.{take-take, ◌∙◌, length-append, length-drop, drop_of_length-le, take_all, take_at, drop_at, length-take-le, drop-drop}
+use Rattle.std.proofs.Common.{take_all, length-drop, take-take, ◌∙◌, length-append, drop_of_length-le, take_at, drop_at, length-take-le, drop-drop}
 use Rattle.std.proofs.Math.Path.{sym, ap}
 use Rattle.std.proofs.Math.ListN.{length}
+use Rattle.std.specs.Int.{to_le_bytes, w32}
 use Rattle.std.specs.Result.{result_unwrap_or}
 use Rattle.types.specs.Ty.{Ty, base, pow, prod, spell, spell_atom, AtomBelow, bool-below, int-below, given_below}
 use Rattle.types.specs.Ty as T
@@ -18,7 +19,7 @@ use Rattle.type_grammar.specs.declared.Token.{Token}
 use Rattle.type_grammar.specs.declared.Token.TheVariants.{Leaf, Power, Open, Close, Times}
 use Rattle.type_grammar.specs.Token.{token_at}
 use Rattle.type_grammar.specs.Parse.{closing, operand_by, times_by, times_on, operand_of, product_of}
-use Rattle.type_grammar.specs.Accepts.{and_first, closing-got, Begins, token_stands}
+use Rattle.type_grammar.specs.Accepts.{and_first, closing-got, Begins, token_stands, times_moves, operand_moves}
 use Rattle.type_text.specs.Page.{Splice, splice_as, splice_length, splice_join, splice_lent}
 use Rattle.type_text.specs.Scan.{closed_at, operand_at, product_is}
 
@@ -49,15 +50,15 @@ deep-got p t e h = let z : ◌≡◌ {A = ℕ} 0 1 = cc in omega arith
 
 -- ---- lending
 
-module _ (x : TypeAt) (from : ℕ) (old : List ℕ) where
+module _ {x : TypeAt} {from : ℕ} (old : List ℕ) where
   pub lay-lent-ready : LayReady x from (length old) → LayReady x 0 (length (take (length old - from) (drop from old)))
   lay-lent-ready R =
       let all : length (take (length old - from) (drop from old)) ≡ length old - from = ap length (take_all (length old - from) (drop from old) (omega (arith, length-drop from old))) ∙ length-drop from old in
       record { type = R.type; end = R.end; stands = R.stands; fits = omega (arith, R.fits) }
 
-  pub lay-lent-end : (part new : List ℕ) (e n : ℕ) → from ≤ length old → Laid x 0 (take (length old - from) (drop from old)) part e n → new ≡ take from old ++ (part ++ drop (length old - from) (drop from old)) → Laid x from old new e n
+  pub lay-lent-end : LayReady x from (length old) → (part : List ℕ) (e n : ℕ) → Laid x 0 (take (length old - from) (drop from old)) part e n → Laid x from old (take from old ++ (part ++ drop (length old - from) (drop from old))) e n
   unfolding Laid
-  lay-lent-end part new e n h w g = λ t f st. let z = w t f st in (z.0, splice_lent from _ old part new n h z.1 g)
+  lay-lent-end R part e n w = λ t f st. let z = w t f st in (z.0, splice_lent from _ old part _ n (omega (arith, R.fits)) z.1 refl)
 
 -- ---- moving one place on
 
@@ -197,15 +198,19 @@ times-grows rd tok (suc n) u e t f h =
     on-grows _ u e (tok e) t f (λ q g. let w = and_first (rd q) (λ b c. times_by rd tok n (prod u b) c) t f g in
     omega (arith, product_width u w.0, times-grows rd tok n (prod u w.0) w.1 t f w.3)) h
 
+times_zero : (rd : ℕ → TypeAt) (tok : ℕ → Option Token) (u : Ty) (e : ℕ) → times_by rd tok zero u e ≡ got u e
+unfolding times_by
+times_zero rd tok u e = refl
+
 times-suc : (rd : ℕ → TypeAt) (tok : ℕ → Option Token) (n : ℕ) (u : Ty) (e : ℕ) → times_by rd tok (suc n) u e ≡ times_on (λ q. and_then (rd q) (λ b c. times_by rd tok n (prod u b) c)) u e (tok e)
 unfolding times_by
 times-suc rd tok n u e = refl
 
 -- so far: what is still to come makes the whole type of the one whose record stands in the page
-unfoldable pub Going : ℕ → List (List ℕ) → List ℕ → ℕ → List ℕ → List ℕ → ℕ → ℕ → ℕ → Type 0
-Going left ns s p old page e n turns =
+unfoldable pub Going : ℕ → List (List ℕ) → List ℕ → ℕ → List ℕ → List ℕ → ℕ → ℕ → Type 0
+Going left ns s p old page e n =
     (t : Ty) (f : ℕ) → product_of left ns s p ≡ got t f
-    → (u : Ty) × (times_by (operand_of left ns s) (token_at ns s) turns u e ≡ got t f) × Splice 0 (spell u) old page n
+    → (u : Ty) × (turns : ℕ) × (length s ≤ e + turns) × (times_by (operand_of left ns s) (token_at ns s) turns u e ≡ got t f) × Splice 0 (spell u) old page n
 
 module _ (left : ℕ) (ns : List (List ℕ)) (s : List ℕ) (p : ℕ) (old : List ℕ) where
   parts : (t : Ty) (f : ℕ) → product_of left ns s p ≡ got t f → (u : Ty) × (e : ℕ) × (operand_of left ns s p ≡ got u e) × (times_by (operand_of left ns s) (token_at ns s) (length s) u e ≡ got t f)
@@ -216,74 +221,79 @@ module _ (left : ℕ) (ns : List (List ℕ)) (s : List ℕ) (p : ℕ) (old : Lis
       let w = parts R.type R.end R.stands in
       record { type = w.0; end = w.1; stands = w.2; fits = omega (arith, R.fits, times-grows _ _ (length s) w.0 w.1 R.type R.end w.3) }
 
-  pub going_start : (page : List ℕ) (e n : ℕ) → Laid (operand_of left ns s p) 0 old page e n → Going left ns s p old page e n (length s - 0)
+  pub going_start : (page : List ℕ) (e n : ℕ) → Laid (operand_of left ns s p) 0 old page e n → Going left ns s p old page e n
   unfolding Going Laid
   going_start page e n l = λ t f h.
       let w = parts t f h in
       let z = l w.0 w.1 w.2 in
-      let y : length s - 0 ≡ length s = omega arith in
-      (w.0, rw y (ap (times_by (operand_of left ns s) (token_at ns s) (length s) w.0) z.0 ∙ w.3), z.1)
+      (w.0, length s, omega arith, ap (times_by (operand_of left ns s) (token_at ns s) (length s) w.0) z.0 ∙ w.3, z.1)
 
-  module _ (page : List ℕ) (e n all passed : ℕ) (G : Going left ns s p old page e n (all - passed)) where
-    pub going_done : all ≤ passed → Laid (product_of left ns s p) 0 old page e n
-    unfolding Going Laid times_by
-    going_done z = λ t f h.
+  module _ (page : List ℕ) (e n : ℕ) (G : Going left ns s p old page e n) (k : Option Token) (ek : k ≡ token_at ns s e) where
+    on : (m : ℕ) (u t : Ty) (f : ℕ) → times_by (operand_of left ns s) (token_at ns s) (suc m) u e ≡ got t f → times_on (λ q. and_then (operand_of left ns s q) (λ b c. times_by (operand_of left ns s) (token_at ns s) m (prod u b) c)) u e k ≡ got t f
+    on m u t f h = ap (times_on _ u e) ek ∙ sym (times-suc (operand_of left ns s) (token_at ns s) m u e) ∙ h
+
+    pub going_else : ((more : ℕ → TypeAt) (u : Ty) → times_on more u e k ≡ got u e) → Laid (product_of left ns s p) 0 old page e n
+    unfolding Going Laid
+    going_else c = λ t f h.
         let w = G t f h in
-        let g : got w.0 e ≡ got t f = ap (λ (x : ℕ). times_by (operand_of left ns s) (token_at ns s) x w.0 e) (let y : 0 ≡ all - passed = omega arith in y) ∙ w.1 in
-        ((let i : e ≡ f = cc in i), splice_as _ _ _ _ _ w.2 _ (ap spell (let j : w.0 ≡ t = cc in j)))
+        let g : got w.0 e ≡ got t f = ended w.1 w.0 t f w.3 in
+        ((let i : e ≡ f = cc in i), splice_as _ _ _ _ _ w.4 _ (ap spell (let j : w.0 ≡ t = cc in j)))
+      where
+        ended : (turns : ℕ) (u t : Ty) (f : ℕ) → times_by (operand_of left ns s) (token_at ns s) turns u e ≡ got t f → got u e ≡ got t f
+        ended zero u t f g = sym (times_zero (operand_of left ns s) (token_at ns s) u e) ∙ g
+        ended (suc m) u t f g = sym (c _ u) ∙ on m u t f g
 
-    module _ (z : passed < all) (k : Option Token) (ek : k ≡ token_at ns s e) where
-      on : (u t : Ty) (f : ℕ) → times_by (operand_of left ns s) (token_at ns s) (all - passed) u e ≡ got t f → times_on (λ q. and_then (operand_of left ns s q) (λ b c. times_by (operand_of left ns s) (token_at ns s) (all - (passed + 1)) (prod u b) c)) u e k ≡ got t f
-      on u t f h =
-          let y : all - passed ≡ suc (all - (passed + 1)) = omega arith in
-          ap (times_on _ u e) ek ∙ sym (times-suc (operand_of left ns s) (token_at ns s) (all - (passed + 1)) u e) ∙ ap (λ (x : ℕ). times_by (operand_of left ns s) (token_at ns s) x u e) (sym y) ∙ h
+    module _ (q : ℕ) (h : k ≡ Some (Times q)) where
+      inside : (e < q) × (q ≤ length s)
+      inside = times_moves ns s e q (sym ek ∙ h)
 
-      pub going_else : ((more : ℕ → TypeAt) (u : Ty) → times_on more u e k ≡ got u e) → Laid (product_of left ns s p) 0 old page e n
-      unfolding Going Laid
-      going_else c = λ t f h.
-          let w = G t f h in
-          let g : got w.0 e ≡ got t f = sym (c _ w.0) ∙ on w.0 t f w.1 in
-          ((let i : e ≡ f = cc in i), splice_as _ _ _ _ _ w.2 _ (ap spell (let j : w.0 ≡ t = cc in j)))
+      next : (turns : ℕ) (u t : Ty) (f : ℕ) → length s ≤ e + turns → times_by (operand_of left ns s) (token_at ns s) turns u e ≡ got t f → (m : ℕ) × (b : Ty) × (c : ℕ) × (length s ≤ c + m) × (operand_of left ns s q ≡ got b c) × (times_by (operand_of left ns s) (token_at ns s) m (prod u b) c ≡ got t f) × (e < c)
+      unfolding times_on
+      next zero u t f a g = absurd (omega (arith, inside))
+      next (suc m) u t f a g =
+          let w = and_first (operand_of left ns s q) (λ b c. times_by (operand_of left ns s) (token_at ns s) m (prod u b) c) t f (ap (times_on _ u e) (sym h) ∙ on m u t f g) in
+          let z = operand_moves left ns s q w.0 w.1 w.2 in
+          (m, w.0, w.1, omega (arith, inside), w.2, w.3, omega (arith, inside))
 
-      module _ (q : ℕ) (h : k ≡ Some (Times q)) where
-        next : (u t : Ty) (f : ℕ) → times_by (operand_of left ns s) (token_at ns s) (all - passed) u e ≡ got t f → (b : Ty) × (c : ℕ) × (operand_of left ns s q ≡ got b c) × (times_by (operand_of left ns s) (token_at ns s) (all - (passed + 1)) (prod u b) c ≡ got t f)
-        unfolding times_on
-        next u t f g = and_first (operand_of left ns s q) (λ b c. times_by (operand_of left ns s) (token_at ns s) (all - (passed + 1)) (prod u b) c) t f (ap (times_on _ u e) (sym h) ∙ on u t f g)
+      module _ (R : LayReady (product_of left ns s p) 0 (length old)) where
+        here : (u : Ty) × (turns : ℕ) × (length s ≤ e + turns) × (times_by (operand_of left ns s) (token_at ns s) turns u e ≡ got R.type R.end) × Splice 0 (spell u) old page n
+        unfolding Going
+        here = G R.type R.end R.stands
 
-        module _ (R : LayReady (product_of left ns s p) 0 (length old)) where
-          here : (u : Ty) × (times_by (operand_of left ns s) (token_at ns s) (all - passed) u e ≡ got R.type R.end) × Splice 0 (spell u) old page n
-          unfolding Going
-          here = G R.type R.end R.stands
+        further : (m : ℕ) × (b : Ty) × (c : ℕ) × (length s ≤ c + m) × (operand_of left ns s q ≡ got b c) × (times_by (operand_of left ns s) (token_at ns s) m (prod here.0 b) c ≡ got R.type R.end) × (e < c)
+        further = next here.1 here.0 R.type R.end here.2 here.3
 
-          wide : let w = next here.0 R.type R.end here.1 in 1 + n + length (spell w.0) ≤ length old
-          wide =
-              let w = next here.0 R.type R.end here.1 in
-              omega (arith, R.fits, here.2.count, product_width here.0 w.0, times-grows _ _ (all - (passed + 1)) (prod here.0 w.0) w.1 R.type R.end w.3)
+        wide : 1 + n + length (spell further.1) ≤ length old
+        wide = omega (arith, R.fits, here.4.count, product_width here.0 further.1, times-grows _ _ further.0 (prod here.0 further.1) further.2 R.type R.end further.5)
 
-          pub going-room : n + 1 ≤ length page
-          going-room = omega (arith, wide, splice_length _ _ _ _ _ here.2)
+        pub going-room : n + 1 ≤ length page
+        going-room = omega (arith, wide, splice_length _ _ _ _ _ here.4)
 
-          module _ (led : List ℕ) (el : led ≡ led_by 0x44 n page) where
-            pub going-ready : LayReady (operand_of left ns s q) (n + 1) (length led)
-            going-ready =
-                let w = next here.0 R.type R.end here.1 in
-                record { type = w.0; end = w.1; stands = w.2; fits = omega (arith, wide, splice_length _ _ _ _ _ (splice_lead _ _ _ _ 0x44 n here.2 going-room el)) }
+        module _ (led : List ℕ) (el : led ≡ led_by 0x44 n page) where
+          pub going-ready : LayReady (operand_of left ns s q) (n + 1) (length led)
+          going-ready =
+              record { type = further.1; end = further.2; stands = further.4; fits = omega (arith, wide, splice_length _ _ _ _ _ (splice_lead _ _ _ _ 0x44 n here.4 going-room el)) }
 
-            pub going-sum : (new : List ℕ) (c m : ℕ) → Laid (operand_of left ns s q) (n + 1) led new c m → n + 1 + m ≤ length old
+          module _ (new : List ℕ) (c m : ℕ) (l : Laid (operand_of left ns s q) (n + 1) led new c m) where
+            pub going-sum : n + 1 + m ≤ length old
             unfolding Laid
-            going-sum new c m l =
-                let w = next here.0 R.type R.end here.1 in
-                omega (arith, wide, (l w.0 w.1 w.2).1.count)
+            going-sum = omega (arith, wide, (l further.1 further.2 further.4).1.count)
 
-            pub going_on : (new : List ℕ) (c m : ℕ) → Laid (operand_of left ns s q) (n + 1) led new c m → Going left ns s p old new c (n + 1 + m) (all - (passed + 1))
+            pub going-within : length s - c < length s - e
+            unfolding Laid
+            going-within = omega (arith, (l further.1 further.2 further.4).0, further.6, inside)
+
+            pub going_on : Going left ns s p old new c (n + 1 + m)
             unfolding Going Laid spell
-            going_on new c m l = λ t f g.
+            going_on = λ t f g.
                 let w = G t f g in
-                let v = next w.0 t f w.1 in
-                let x = l v.0 v.1 v.2 in
-                let a = splice_lead _ _ _ _ 0x44 n w.2 going-room el in (
-                  prod w.0 v.0,
-                  ap (times_by (operand_of left ns s) (token_at ns s) (all - (passed + 1)) (prod w.0 v.0)) x.0 ∙ v.3,
+                let v = next w.1 w.0 t f w.2 w.3 in
+                let x = l v.1 v.2 v.4 in
+                let a = splice_lead _ _ _ _ 0x44 n w.4 going-room el in (
+                  prod w.0 v.1,
+                  v.0,
+                  omega (arith, v.3, x.0),
+                  ap (times_by (operand_of left ns s) (token_at ns s) v.0 (prod w.0 v.1)) x.0 ∙ v.5,
                   splice_join _ _ _ _ _ a _ _ _ _ (let y : n + 1 ≡ 0 + (n + 1) = omega arith in y) x.1,
                 )
 
@@ -324,10 +334,13 @@ module _ (a : Atom) where
   spell-integer e = sym (rw e)
 
   module _ (n : Name) (e : a ≡ A.Given n) (h : Small (atom_is a)) where
-    pub given-small : n.0 < 65536
+    given-small : n.0 < 65536
     unfolding Small atom_is
     given-small = let s : Small (atom_is (A.Given n)) = rw e at h in s
 
-    pub spell-given : (0x42 ∷ n.0 % 256 ∷ n.0 / 256 % 256 ∷ []) ≡ spell_atom (atom_is a)
+    spell-given : (0x42 ∷ n.0 % 256 ∷ n.0 / 256 % 256 ∷ []) ≡ spell_atom (atom_is a)
     unfolding spell_atom atom_is
     spell-given = let z : n.0 / 256 % 256 ≡ n.0 / 256 = omega (arith, given-small) in rw z (sym (rw e))
+
+    pub spell-bytes : (b : List ℕ) → b ≡ to_le_bytes w32 n.0 → (0x42 ∷ get_or b 0 0 ∷ get_or b 1 0 ∷ []) ≡ spell_atom (atom_is a)
+    spell-bytes b g = rw g spell-given

@@ -2,7 +2,7 @@
 use Rattle.std.specs.Prelude.{ℕ, ◌+◌, ◌-◌, ◌≤◌, ◌≡◌, refl, length, take, drop, Option, Some, None}
 use native.Mathlib.Omega.{arith}
 use Rattle.std.proofs.Math.Path.{sym, ap}
-use Rattle.std.proofs.Common.{◌∙◌, length-append, length-drop, take_all}
+use Rattle.std.proofs.Common.{take_all, length-drop, ◌∙◌, length-append}
 use mathlib.Core.List.{List, ◌++◌, append_assoc}
 use Rattle.types.specs.Ty.{Ty, base, pow, prod}
 use Rattle.types.specs.Record.{TypeAt, got, malformed, deep, and_then, head_of, deep_by, type_at}
@@ -219,12 +219,12 @@ module _ (ns : List (List ℕ)) (count : ℕ) (r : List ℕ) (p left : ℕ) (sid
 
 -- ---- the page's tail is lent
 
-module _ (ns : List (List ℕ)) (count : ℕ) (r : List ℕ) (p left : ℕ) (side : Side) (from : ℕ) (old : List ℕ) where
+module _ {ns : List (List ℕ)} {count : ℕ} {r : List ℕ} {p left : ℕ} {side : Side} {from : ℕ} (old : List ℕ) where
   pub lent-ready : Ready ns count r p left side from (length old) → Ready ns count r p left side 0 (length (take (length old - from) (drop from old)))
   lent-ready R =
       let all : length (take (length old - from) (drop from old)) ≡ length old - from = ap length (take_all (length old - from) (drop from old) (omega (arith, length-drop from old))) ∙ length-drop from old in
       record { type = R.type; end = R.end; stands = R.stands; fits = omega (arith, R.fits) }
 
-  pub lent-end : (part new : List ℕ) (e n : ℕ) → from ≤ length old → Written ns count r p left side 0 (take (length old - from) (drop from old)) part e n → new ≡ take from old ++ (part ++ drop (length old - from) (drop from old)) → Written ns count r p left side from old new e n
+  pub lent-end : Ready ns count r p left side from (length old) → (part : List ℕ) (e n : ℕ) → Written ns count r p left side 0 (take (length old - from) (drop from old)) part e n → Written ns count r p left side from old (take from old ++ (part ++ drop (length old - from) (drop from old))) e n
   unfolding Written
-  lent-end part new e n h w g = λ t f st. let z = w t f st in (z.0, splice_lent from _ old part new n h z.1 g)
+  lent-end R part e n w = λ t f st. let z = w t f st in (z.0, splice_lent from _ old part _ n (omega (arith, R.fits)) z.1 refl)

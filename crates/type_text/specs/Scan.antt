@@ -10,6 +10,7 @@ use Rattle.type_grammar.specs.declared.Token.{Token}
 use Rattle.type_grammar.specs.declared.Token.TheVariants.{Leaf, Power, Open, Close, Times}
 use Rattle.type_grammar.specs.Token.{token_at}
 use Rattle.type_grammar.specs.Parse.{closing, operand_by, times_by, times_on, product_by, operand_of, product_of}
+use Rattle.type_grammar.specs.Accepts.{times_moves, operand_moves}
 use Rattle.types.specs.declared.Fault.{Fault}
 use Rattle.types.specs.declared.Fault.TheVariants as F
 use Rattle.type_text.specs.Page.{spend_of, spend_twice}
@@ -216,6 +217,10 @@ pub product_is : (left : ℕ) (ns : List (List ℕ)) (s : List ℕ) (p : ℕ) �
 unfolding product_of product_by
 product_is left ns s p = refl
 
+-- so far: what is still to come makes the whole answer
+unfoldable pub Scanning : ℕ → List (List ℕ) → List ℕ → Scanned → ℕ → ℕ → Option ℕ → Type 0
+Scanning left ns s total e d r = (n : ℕ) × (length s ≤ e + n) × (total ≡ scan_times_of left ns s n e d r)
+
 first-go : (rd : ℕ → TypeAt) (tok : ℕ → Option Token) (n : ℕ) (room : Option ℕ) (x : TypeAt) (o : ℕ × ℕ × Option ℕ) → Ok o ≡ scanned_of room x → scan_times_by rd tok n o.0 o.1 o.2 ≡ scanned_of room (and_then x (λ t f. times_by rd tok n t f))
 unfolding and_then
 first-go rd tok n room (malformed p) o h = absurd (type-malformed room o p h)
@@ -228,39 +233,59 @@ module _ (left : ℕ) (ns : List (List ℕ)) (s : List ℕ) (p : ℕ) (room : Op
   pub product-stop : (k : Fault ℕ) → m ≡ Err k → Err k ≡ scanned_of room (product_of left ns s p)
   product-stop k h = first-stop room room (operand_of left ns s p) _ k (sym h ∙ em) ∙ sym (ap (scanned_of room) (product_is left ns s p))
 
-  pub product-go : (o : ℕ × ℕ × Option ℕ) → m ≡ Ok o → scanned_of room (product_of left ns s p) ≡ scan_times_of left ns s (length s - 0) o.0 o.1 o.2
-  unfolding scan_times_of
+  pub product-go : (o : ℕ × ℕ × Option ℕ) → m ≡ Ok o → Scanning left ns s (scanned_of room (product_of left ns s p)) o.0 o.1 o.2
+  unfolding Scanning scan_times_of
   product-go o h =
-      let z : length s - 0 ≡ length s = omega arith in
-      rw z (ap (scanned_of room) (product_is left ns s p) ∙ sym (first-go (operand_of left ns s) (token_at ns s) (length s) room (operand_of left ns s p) o (sym h ∙ em)))
+      (length s, omega arith, ap (scanned_of room) (product_is left ns s p) ∙ sym (first-go (operand_of left ns s) (token_at ns s) (length s) room (operand_of left ns s p) o (sym h ∙ em)))
+
+times_done : (left : ℕ) (ns : List (List ℕ)) (s : List ℕ) (e d : ℕ) (r : Option ℕ) → scan_times_of left ns s 0 e d r ≡ Ok (e, d, r)
+unfolding scan_times_of scan_times_by
+times_done left ns s e d r = refl
 
 scan_suc : (left : ℕ) (ns : List (List ℕ)) (s : List ℕ) (n e d : ℕ) (r : Option ℕ) → scan_times_of left ns s (suc n) e d r ≡ scan_on (λ q. scan_next (λ f g m. scan_times_of left ns s n f g m) d (scanned_of (spend_of r 1) (operand_of left ns s q))) e d r (token_at ns s e)
 unfolding scan_times_of scan_times_by
 scan_suc left ns s n e d r = refl
 
-module _ (left : ℕ) (ns : List (List ℕ)) (s : List ℕ) (total : Scanned) (n i e d : ℕ) (r : Option ℕ) (inv : total ≡ scan_times_of left ns s (n - i) e d r) where
-  pub times_none : n ≤ i → Ok (e, d, r) ≡ total
-  unfolding scan_times_of scan_times_by
-  times_none h = let z : n - i ≡ 0 = omega arith in sym (inv ∙ rw z)
+module _ (left : ℕ) (ns : List (List ℕ)) (s : List ℕ) (total : Scanned) (e d : ℕ) (r : Option ℕ) (k : Option Token) (ek : k ≡ token_at ns s e) where
+  times_at : (n : ℕ) → total ≡ scan_times_of left ns s (suc n) e d r → total ≡ scan_on (λ q. scan_next (λ f g m. scan_times_of left ns s n f g m) d (scanned_of (spend_of r 1) (operand_of left ns s q))) e d r k
+  times_at n h = h ∙ scan_suc left ns s n e d r ∙ ap (scan_on _ e d r) (sym ek)
 
-  module _ (z : i < n) (k : Option Token) (ek : k ≡ token_at ns s e) where
-    pub times-at : total ≡ scan_on (λ q. scan_next (λ f g m. scan_times_of left ns s (n - (i + 1)) f g m) d (scanned_of (spend_of r 1) (operand_of left ns s q))) e d r k
-    times-at =
-        let f : n - i ≡ suc (n - (i + 1)) = omega arith in
-        inv ∙ ap (λ (x : ℕ). scan_times_of left ns s x e d r) f ∙ scan_suc left ns s (n - (i + 1)) e d r ∙ ap (scan_on _ e d r) (sym ek)
+  pub times-other : Scanning left ns s total e d r → ((next : ℕ → Scanned) → scan_on next e d r k ≡ Ok (e, d, r)) → Ok (e, d, r) ≡ total
+  unfolding Scanning
+  times-other G h = go G.0 G.2
+    where
+      go : (n : ℕ) → total ≡ scan_times_of left ns s n e d r → Ok (e, d, r) ≡ total
+      go zero g = sym (g ∙ times_done left ns s e d r)
+      go (suc n) g = sym (times_at n g ∙ h _)
 
-    pub times-other : ((next : ℕ → Scanned) → scan_on next e d r k ≡ Ok (e, d, r)) → Ok (e, d, r) ≡ total
-    times-other h = sym (times-at ∙ h _)
+  module _ (q : ℕ) (h : k ≡ Some (Times q)) (G : Scanning left ns s total e d r) (more : Option ℕ) (em : more ≡ spend_of r 1) (m : Scanned) (es : m ≡ scanned_of more (operand_of left ns s q)) where
+    inside : (e < q) × (q ≤ length s)
+    inside = times_moves ns s e q (sym ek ∙ h)
 
-    module _ (q : ℕ) (h : k ≡ Some (Times q)) (more : Option ℕ) (em : more ≡ spend_of r 1) (m : Scanned) (es : m ≡ scanned_of more (operand_of left ns s q)) where
-      times-next : total ≡ scan_next (λ f g l. scan_times_of left ns s (n - (i + 1)) f g l) d m
-      unfolding scan_on
-      times-next = times-at ∙ rw (h, ← em, ← es)
+    next : (n : ℕ) × (length s ≤ e + suc n) × (total ≡ scan_next (λ f g l. scan_times_of left ns s n f g l) d m)
+    unfolding Scanning scan_on
+    next = go G.0 G.1 G.2
+      where
+        go : (n : ℕ) → length s ≤ e + n → total ≡ scan_times_of left ns s n e d r → (n : ℕ) × (length s ≤ e + suc n) × (total ≡ scan_next (λ f g l. scan_times_of left ns s n f g l) d m)
+        go zero a g = absurd (omega (arith, inside))
+        go (suc n) a g = (n, a, times_at n g ∙ rw (h, ← em, ← es))
 
-      pub times-stop : (j : Fault ℕ) → m ≡ Err j → Err j ≡ total
-      unfolding scan_next
-      times-stop j g = sym (times-next ∙ rw g)
+    pub times-stop : (j : Fault ℕ) → m ≡ Err j → Err j ≡ total
+    unfolding scan_next
+    times-stop j g = sym (next.2 ∙ ap (scan_next (λ f g l. scan_times_of left ns s next.0 f g l) d) g)
 
-      pub times-go : (o : ℕ × ℕ × Option ℕ) (l g : ℕ) → m ≡ Ok o → l ≡ max d o.1 → g ≡ deeper_of l → total ≡ scan_times_of left ns s (n - (i + 1)) o.0 g o.2
-      unfolding scan_next
-      times-go o l g a b c = times-next ∙ rw (a, c, b)
+    module _ (o : ℕ × ℕ × Option ℕ) (a : m ≡ Ok o) where
+      pub times-further : e < o.0
+      times-further = go (operand_of left ns s q) refl (sym a ∙ es)
+        where
+          go : (x : TypeAt) → operand_of left ns s q ≡ x → Ok o ≡ scanned_of more x → e < o.0
+          go (malformed p) i j = absurd (type-malformed more o p j)
+          go (deep p) i j = absurd (type-deep more o p j)
+          go (got t f) i j = let w = type-got more t f o j in omega (arith, w.0, inside, operand_moves left ns s q t f i)
+
+      pub times-within : length s - o.0 < length s - e
+      times-within = omega (arith, times-further, inside)
+
+      pub times-go : (l g : ℕ) → l ≡ max d o.1 → g ≡ deeper_of l → Scanning left ns s total o.0 g o.2
+      unfolding Scanning scan_next
+      times-go l g b c = (next.0, omega (arith, next.1, times-further), next.2 ∙ ap (scan_next (λ f g l. scan_times_of left ns s next.0 f g l) d) a ∙ ap (λ (x : ℕ). scan_times_of left ns s next.0 o.0 x o.2) (sym (c ∙ ap deeper_of b)))

@@ -1,5 +1,5 @@
 -- The writer's entry, step by step.
-use Rattle.std.specs.Prelude.{ℕ, ◌-◌, ◌≤◌, ◌<◌, ◌≡◌, Bool, true, false, not, List, length, leb, Option, Some, Ok, Err}
+use Rattle.std.specs.Prelude.{◌++◌, take, drop, ℕ, ◌-◌, ◌≤◌, ◌<◌, ◌≡◌, Bool, true, false, not, List, length, leb, Option, Some, Ok, Err}
 use Rattle.std.proofs.Common.{arith, ◌∙◌}
 use Rattle.std.proofs.Math.Path.{refl, sym, ap}
 use borrow.Author.Tests.{eq-eqb, ne_eqb, le-leb, lt-leb, leb-true, not-true, not-false}
@@ -15,7 +15,7 @@ use Rattle.type_text.specs.declared.Refusal.TheVariants.{Bad, At, NoRoom}
 use Rattle.std.specs.Option.{is_some}
 use Rattle.type_text.specs.Page.{spend_of, spent-over, spent-left, none_is, some_is}
 use Rattle.type_text.specs.Measure.{Measured, text_in, in_plain, measured_of}
-use Rattle.type_text.specs.Put.{Ready, Written}
+use Rattle.type_text.specs.Put.{Ready, Written, lent-end}
 use Rattle.type_text.specs.Answer.{Answer, written_by, write_answer, written_page, write_page}
 
 -- a refusal leaves the page as it was
@@ -99,8 +99,8 @@ module _ (r tab page : List ℕ) (pos : ℕ) where
                     fits = omega (arith, leb-true (length (text (names tab) stands.0)) (length page - pos) room, ap length (in_plain (names tab) stands.0));
                   }
 
-              pub write_done : (new : List ℕ) (f n : ℕ) → Written (names tab) count r 0 65 Plain pos page new f n → (Ok n ≡ write_answer r tab page pos) × (new ≡ write_page r tab page pos)
+              pub write_done : (part : List ℕ) (f n : ℕ) → Written (names tab) count r 0 65 Plain 0 (take (length page - pos) (drop pos page)) part f n → (Ok n ≡ write_answer r tab page pos) × (take pos page ++ (part ++ drop (length page - pos) (drop pos page)) ≡ write_page r tab page pos)
               unfolding written_page written_by Written text_in
-              write_done new f n w =
-                  let s = (w stands.0 e (at_count ∙ stands.1)).1 in
-                  ends (Ok n) new (sym (answer-is ∙ rw (stands.1, eq-eqb e (length r) he, room, ← s.count))) (s.page ∙ sym (rw stands.1))
+              write_done part f n w =
+                  let s = (lent-end page write_ready part f n w stands.0 e (at_count ∙ stands.1)).1 in
+                  ends (Ok n) _ (sym (answer-is ∙ rw (stands.1, eq-eqb e (length r) he, room, ← s.count))) (s.page ∙ sym (rw stands.1))

@@ -55,7 +55,7 @@ pub fn write(bytes: &[u8], table: &[u8], page: &mut [u8], position: usize) -> Re
     if room.is_none() {
         return Err(Refusal::NoRoom);
     }
-    let put = writer.put_at(0, types::LEVELS, Side::Plain, page, position);
+    let put = writer.put(0, types::LEVELS, Side::Plain, &mut page[position..]);
     Ok(put.width)
 }
 

@@ -80,9 +80,8 @@ fn lay_atom(a: Atom, page: &mut [u8]) -> usize
         Atom::Bool => copy(page, 0, &KIND_BOOL),
         Atom::Integer => copy(page, 0, &KIND_INTEGER),
         Atom::Given(name) => {
-            let n = name.0;
-            let b = [0x42u8, (n % 256) as u8, (n / 256 % 256) as u8];
-            copy(page, 0, &b)
+            let [low, high, ..] = name.0.to_le_bytes();
+            copy(page, 0, &[0x42, low, high])
         }
     }
 }
@@ -145,7 +144,7 @@ impl Reader<'_> {
         }
     }
 
-    // The same of a product. Each turn reads a × and an operand, so the text's length is turns enough.
+    // The same of a product.
     #[cycle(scanning)]
     pub fn scan_product(
         &self,
@@ -155,17 +154,8 @@ impl Reader<'_> {
         ensures { result ≡ scanned_of room (product_of c.left (names self.now.table.now) self.now.text.now c.at) }
     {
         let (mut e, mut d, mut r) = self.scan_operand(c, room)?;
-        for _turn in 0..self.text.len() {
-            let Some(Token::Times(q)) = self.token(e) else {
-                break;
-            };
-            let (f, d2, r2) = self.scan_operand(
-                Cursor {
-                    at: q,
-                    left: c.left,
-                },
-                spend(r, 1),
-            )?;
+        while let Some(Token::Times(q)) = self.token(e) {
+            let (f, d2, r2) = self.scan_operand(Cursor { at: q, ..c }, spend(r, 1))?;
             e = f;
             d = deeper(d.max(d2));
             r = r2;
@@ -189,7 +179,7 @@ impl Reader<'_> {
                     left: c.left - 1,
                 };
                 let n = copy(page, 0, &KIND_POWER);
-                let w = self.lay_product_at(inside, page, n);
+                let w = self.lay_product(inside, &mut page[n..]);
                 Wrote {
                     end: self.close(w.end).unwrap_or(w.end),
                     width: n + w.width,
@@ -200,7 +190,7 @@ impl Reader<'_> {
                     at: q,
                     left: c.left - 1,
                 };
-                let w = self.lay_product_at(inside, page, 0);
+                let w = self.lay_product(inside, page);
                 Wrote {
                     end: self.close(w.end).unwrap_or(w.end),
                     width: w.width,
@@ -213,24 +203,6 @@ impl Reader<'_> {
         }
     }
 
-    // Lends the page's tail to a nested operand.
-    #[cycle(laying)]
-    fn lay_operand_at(&self, c: Cursor, page: &mut [u8], from: usize) -> Wrote
-        requires { LayReady (operand_of c.left (names self.now.table.now) self.now.text.now c.at) from (length page.old) }
-        ensures { Laid (operand_of c.left (names self.now.table.now) self.now.text.now c.at) from page.old page.new result.end result.width }
-    {
-        self.lay_operand(c, &mut page[from..])
-    }
-
-    // Lends the page's tail to a product in brackets.
-    #[cycle(laying)]
-    fn lay_product_at(&self, c: Cursor, page: &mut [u8], from: usize) -> Wrote
-        requires { LayReady (product_of c.left (names self.now.table.now) self.now.text.now c.at) from (length page.old) }
-        ensures { Laid (product_of c.left (names self.now.table.now) self.now.text.now c.at) from page.old page.new result.end result.width }
-    {
-        self.lay_product(c, &mut page[from..])
-    }
-
     // Each × moves the record so far one place on. The type is at most 64 deep by now, so no byte moves more often than that.
     #[cycle(laying)]
     pub(crate) fn lay_product(&self, c: Cursor, page: &mut [u8]) -> Wrote
@@ -240,20 +212,10 @@ impl Reader<'_> {
         let w = self.lay_operand(c, page);
         let mut end = w.end;
         let mut width = w.width;
-        for _turn in 0..self.text.len() {
-            let Some(Token::Times(q)) = self.token(end) else {
-                break;
-            };
+        while let Some(Token::Times(q)) = self.token(end) {
             lead(page, width, KIND_PRODUCT);
             let m = width + 1;
-            let b = self.lay_operand_at(
-                Cursor {
-                    at: q,
-                    left: c.left,
-                },
-                page,
-                m,
-            );
+            let b = self.lay_operand(Cursor { at: q, ..c }, &mut page[m..]);
             end = b.end;
             width = m + b.width;
         }

@@ -106,25 +106,8 @@ impl Writer<'_> {
         }
     }
 
-    // Lends the page's tail to a nested operand.
-    #[cycle(putting)]
-    pub(crate) fn put_at(
-        &self,
-        at: usize,
-        left: u32,
-        side: Side,
-        page: &mut [u8],
-        from: usize,
-    ) -> Wrote
-        requires { Ready (names self.now.table.now) self.now.count self.now.bytes.now at left side from (length page.old) }
-        ensures { Written (names self.now.table.now) self.now.count self.now.bytes.now at left side from page.old page.new result.end result.width }
-    {
-        self.put(at, left, side, &mut page[from..])
-    }
-
     // Puts a type's text at the page's start.
-    #[cycle(putting)]
-    fn put(&self, at: usize, left: u32, side: Side, page: &mut [u8]) -> Wrote
+    pub(crate) fn put(&self, at: usize, left: u32, side: Side, page: &mut [u8]) -> Wrote
         requires { Ready (names self.now.table.now) self.now.count self.now.bytes.now at left side 0 (length page.old) }
         ensures { Written (names self.now.table.now) self.now.count self.now.bytes.now at left side 0 page.old page.new result.end result.width }
     {
@@ -136,7 +119,7 @@ impl Writer<'_> {
             }
             Some(Head::Power(e)) => {
                 let n = copy(page, 0, &POWER);
-                let w = self.put_at(e, left - 1, Side::Plain, page, n);
+                let w = self.put(e, left - 1, Side::Plain, &mut page[n..]);
                 let m = n + w.width;
                 let k = copy(page, m, &CLOSE);
                 Wrote {
@@ -147,7 +130,7 @@ impl Writer<'_> {
             Some(Head::Product(e)) => match side {
                 Side::Right => {
                     let n = copy(page, 0, &OPEN);
-                    let w = self.put_at(at, left, Side::Plain, page, n);
+                    let w = self.put(at, left, Side::Plain, &mut page[n..]);
                     let m = n + w.width;
                     let k = copy(page, m, &CLOSE);
                     Wrote {
@@ -156,11 +139,11 @@ impl Writer<'_> {
                     }
                 }
                 Side::Plain => {
-                    let a = self.put_at(e, left - 1, Side::Plain, page, 0);
+                    let a = self.put(e, left - 1, Side::Plain, page);
                     let n = a.width;
                     let k = copy(page, n, &TIMES);
                     let m = n + k;
-                    let b = self.put_at(a.end, left - 1, Side::Right, page, m);
+                    let b = self.put(a.end, left - 1, Side::Right, &mut page[m..]);
                     Wrote {
                         end: b.end,
                         width: m + b.width,

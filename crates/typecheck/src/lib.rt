@@ -4,50 +4,19 @@
 #![tactic(auto)]
 
 ghost use Rattle.std.specs.Prelude.{◌≡◌, List, ℕ, ◌+◌, ◌*◌, ◌≤◌, length, take};
-ghost use Rattle.machine.specs.Machine.{mach, smaller};
 ghost use Rattle.runner.specs.Run.{run_of, judged, judge_of};
 ghost use Rattle.formula.specs.Parse.{parse_of, form_of};
 ghost use Rattle.inference.specs.Infer.{infer_of};
 ghost use Rattle.runner.specs.Answers.{called, call_of};
 ghost use Rattle.runner.specs.Calls.{formula_call};
 
-use formula::Form;
-use machine::State;
-use runner::Answer;
+use formula::FormError;
+use machine::Machine;
+use runner::{Answer, Input, Refusal};
 
-// The walk over words whose book is empty but for the environment's types; then the tests of names and slots.
-fn run(
-    formula: &[u8],
-    environment: &[u8],
-    types: &[u32; 256],
-    size: u32,
-    budget: u64,
-    output: &mut [u8],
-    work: &mut [u32],
-) -> State
-    ensures { mach size result work.new output.new ≡ run_of formula.now environment.now types.now size budget work.old output.old }
-{
-    memory::clear_words(work, size as usize);
-    runner::enter_types(work, size, types);
-    let walked = walker::formula(
-        formula,
-        environment,
-        work,
-        output,
-        size,
-        runner::start(budget),
-    );
-    finisher::finish(work, output, size, walked)
-}
-
-// The smaller of two lengths.
-fn shorter(a: usize, b: usize) -> usize
-    ensures { result ≡ smaller a b }
-{
-    if a < b { a } else { b }
-}
-
-// The walk, the tests and the answer over a part of the work slice that is just the arena and the book.
+// The walk, the tests and the answer over a part of the work slice that is just the arena and the book. The book is empty at first but for the
+// environment's types.
+#[tactic(auto, using(machine::specs::Seen::still, finisher::specs::Still::still, runner::specs::Stops::judge_stops), unfolding(runner::specs::Run::run_of, forms::specs::Forms::then))]
 fn walk(
     formula: &[u8],
     environment: &[u8],
@@ -59,20 +28,24 @@ fn walk(
 ) -> Answer
     ensures { judged result output.new ≡ judge_of budget (run_of formula.now environment.now types.now size budget (take (size + 4096) work.old) output.old) }
 {
-    let n = shorter(size as usize + types::BOOK, work.len());
-    let st = run(
+    let n = work.len().min(size as usize + types::BOOK);
+    let mut machine = Machine::new(
         formula,
         environment,
-        types,
         size,
         budget,
-        output,
         &mut work[..n],
+        output,
     );
-    runner::judge(&work[..n], output, size, budget, st)
+    memory::clear_words(machine.work, size as usize);
+    runner::enter_types(&mut machine, types);
+    walker::formula(&mut machine)?;
+    finisher::finish(&mut machine)?;
+    runner::judge(&mut machine, budget)
 }
 
 // Inference over inputs whose sizes are in order and whose environment is well formed.
+// Its parameters are those of `infer`, which is public: a struct of them would be made for this one call.
 fn infer_formula(
     formula: &[u8],
     environment: &[u8],
@@ -87,9 +60,9 @@ fn infer_formula(
     ensures { called result output.new work.new ≡ formula_call (form_of (parse_of names formula.now)) formula.now environment.now types.now capacity budget output.old work.old }
 {
     match formula::check_formula(formula, names) {
-        Form::TooLong => Answer::Oversized,
-        Form::Bad(fault) => runner::close(runner::refusal(false, fault), output, work),
-        Form::Good => {
+        Err(FormError::TooLong) => Err(Refusal::Oversized),
+        Err(FormError::At(fault)) => runner::close(Err(runner::blame(Input::Formula, fault)), output, work),
+        Ok(()) => {
             let answer = walk(
                 formula,
                 environment,
@@ -119,33 +92,36 @@ pub fn infer(
 ) -> Answer
     ensures { called result output.new work.new ≡ call_of (infer_of formula.now environment.now names capacity budget (length output.old) (length work.old)) output.old work.old }
 {
-    if runner::fits(
+    if !runner::fits(
         formula.len(),
         environment.len(),
         names,
         capacity,
         work.len(),
     ) {
-        let tested = formula::check_environment(environment, names);
-        let form = tested.form;
-        match form {
-            Form::TooLong => Answer::Oversized,
-            Form::Bad(fault) => runner::close(runner::refusal(true, fault), output, work),
-            Form::Good => {
-                let types = tested.types;
-                infer_formula(
-                    formula,
-                    environment,
-                    &types,
-                    names,
-                    capacity,
-                    budget,
-                    output,
-                    work,
-                )
-            }
+        return Err(Refusal::Oversized);
+    }
+    let tested = formula::check_environment(environment, names);
+    let form = tested.form;
+    match form {
+        Err(FormError::TooLong) => Err(Refusal::Oversized),
+        Err(FormError::At(fault)) => runner::close(
+            Err(runner::blame(Input::Environment, fault)),
+            output,
+            work,
+        ),
+        Ok(()) => {
+            let types = tested.types;
+            infer_formula(
+                formula,
+                environment,
+                &types,
+                names,
+                capacity,
+                budget,
+                output,
+                work,
+            )
         }
-    } else {
-        Answer::Oversized
     }
 }

@@ -30,3 +30,4 @@ pub mod Direction
 pub mod Runs
 pub mod Lift
 mod Cases
+pub mod Nodes

@@ -1,80 +1,85 @@
--- How the code's answers are read: each case of each enum as a node, or as an outcome of the definitions of crate `unification`.
+-- How the code's answers are read: each as a node, a task or a verdict, or as an outcome of the definitions of crate `unification`.
 --
 -- `spent` is number 7, `halt broken` 2, `halt full` 6; `done` has the answer and the budget left.
 -- Where a function changes the words, the reading takes them as they are at exit, so that one equation says answer and words.
-use Rattle.std.specs.Prelude.{ℕ, Bool, true, false, eqb}
+use Rattle.std.specs.Prelude.{ℕ, Bool, true, false, Option, Some, None, Result, Ok, Err}
 use Rattle.meter.specs.Meter.{Out, spent, halt, done, broken}
 use Rattle.unification.specs.Arena as S
 use Rattle.unification.specs.Tasks as T
-use Rattle.unification.specs.Good.{Root}
-use Rattle.unifier.specs.declared.Node.{Node}
-use Rattle.unifier.specs.declared.Found.{Found}
-use Rattle.unifier.specs.declared.Found.TheVariants as F
-use Rattle.unifier.specs.declared.Resolved.{Resolved}
-use Rattle.unifier.specs.declared.Resolved.TheVariants as R
-use Rattle.unifier.specs.declared.Told.{Told}
-use Rattle.unifier.specs.declared.Told.TheVariants as To
+use Rattle.unifier.specs.declared.stem.Stem.{Stem}
+use Rattle.unifier.specs.declared.Cell.{Cell}
+use Rattle.unifier.specs.declared.Cell.TheVariants.{Link, Is}
+use Rattle.unifier.specs.declared.Halt.{Halt}
+use Rattle.unifier.specs.declared.Halt.TheVariants.{Spent, Broken}
+use Rattle.unifier.specs.declared.Reached.{Reached}
 use Rattle.unifier.specs.declared.Pair.{Pair}
 use Rattle.unifier.specs.declared.Pair.TheVariants as P
-use Rattle.unifier.specs.declared.Unified.{Unified}
-use Rattle.unifier.specs.declared.Unified.TheVariants as Un
+use Rattle.unifier.specs.declared.Verdict.{Verdict}
+use Rattle.unifier.specs.declared.Verdict.TheVariants as V
+use Rattle.unifier.specs.declared.Told.{Told}
+use Rattle.unifier.specs.declared.Told.TheVariants as To
+use Rattle.unifier.specs.declared.Joined.{Joined}
+use Rattle.unifier.specs.declared.Joined.TheVariants as J
 
--- a node of the code, as three words are read
-unfoldable pub node_of : Node → S.Node
-node_of x = S.decode x.kind x.a x.b
+unfoldable pub stem_is : Stem → S.Node
+stem_is x = S.decode x.kind x.a x.b
 
-unfoldable pub found_of : Found → S.Node
-found_of (F.Link t) = S.link t.0
-found_of (F.Is x) = node_of x
-found_of F.Broken = S.bad
+unfoldable pub cell_is : Option Cell → S.Node
+cell_is (Some (Link t)) = S.link t.0
+cell_is (Some (Is x)) = stem_is x
+cell_is None = S.bad
 
--- what is found is no binding and no broken node
-abbrev pub Settled : Found → Type 0
-Settled (F.Link t) = Unit {0}
-Settled (F.Is x) = Root (node_of x)
-Settled F.Broken = Unit {0}
+abbrev pub task_is : Pair → T.Task
+task_is P.Same = T.same
+task_is P.Clash = T.differ
+task_is (P.Bind v t) = T.bind v.0 t.0
+task_is (P.One x y) = T.one x.0 y.0
+task_is (P.Two x z y w) = T.two x.0 z.0 y.0 w.0
 
-unfoldable pub arrived : Resolved → Out S.U (ℕ × S.Node)
-arrived (R.At t x l) = done (t.0, node_of x) l
-arrived R.Spent = spent tt
-arrived R.Broken = halt broken tt
+abbrev pub verdict_is : Verdict → S.Verdict
+verdict_is V.Done = S.unified
+verdict_is V.Mismatch = S.mismatch
+verdict_is V.Circular = S.circular
 
-abbrev pub told : Told → Out S.U Bool
-told (To.Yes l) = done true l
-told (To.No l) = done false l
-told To.Spent = spent tt
-told To.Broken = halt broken tt
+-- no answer, where the state e stands
+abbrev pub halted : {E A : Type 0} → Halt → E → Out E A
+halted Spent e = spent e
+halted Broken e = halt broken e
 
-unfoldable pub taken : Pair → Out S.U T.Task
-taken (P.Same l) = done T.same l
-taken (P.Clash l) = done T.differ l
-taken (P.Bind v t l) = done (T.bind v.0 t.0) l
-taken (P.One x y l) = done (T.one x.0 y.0) l
-taken (P.Two x z y w l) = done (T.two x.0 z.0 y.0 w.0) l
-taken P.Spent = spent tt
-taken P.Broken = halt broken tt
+unfoldable pub arrived : Result Reached Halt → Out S.U (ℕ × S.Node)
+arrived (Ok r) = done (r.at.0, stem_is r.node) r.left
+arrived (Err h) = halted h tt
 
-abbrev pub settled : Unified → S.Words → Out S.Words S.Answer
-settled (Un.Done l) ws = done (S.unified, ws) l
-settled (Un.Mismatch l) ws = done (S.mismatch, ws) l
-settled (Un.Circular l) ws = done (S.circular, ws) l
-settled Un.Spent ws = spent ws
-settled Un.Broken ws = halt broken ws
+abbrev pub told : Result Bool Halt → ℕ → Out S.U Bool
+told (Ok b) l = done b l
+told (Err h) l = halted h tt
 
--- ---- the numbers that go between levels: 0 yes or unified, 1 no, 100 mismatch, 101 circular, 7 spent, any other broken
-abbrev pub pick : {A : Type 0} → Bool → A → A → A
-pick true a b = a
-pick false a b = b
+abbrev pub taken : Result Pair Halt → ℕ → Out S.U T.Task
+taken (Ok p) l = done (task_is p) l
+taken (Err h) l = halted h tt
 
-unfoldable pub told_as : ℕ → ℕ → Out S.U Bool
-told_as r left =
-    pick (eqb r 0) (done true left)
-    (pick (eqb r 1) (done false left)
-    (pick (eqb r 7) (spent tt) (halt broken tt)))
+abbrev pub settled : Result Verdict Halt → ℕ → S.Words → Out S.Words S.Answer
+settled (Ok v) l ws = done (verdict_is v, ws) l
+settled (Err h) l ws = halted h ws
 
-unfoldable pub unified_as : ℕ → ℕ → S.Words → Out S.Words S.Answer
-unified_as r left ws =
-    pick (eqb r 0) (done (S.unified, ws) left)
-    (pick (eqb r 100) (done (S.mismatch, ws) left)
-    (pick (eqb r 101) (done (S.circular, ws) left)
-    (pick (eqb r 7) (spent ws) (halt broken ws))))
+-- ---- what goes up between levels
+abbrev pub told_of : Halt → Told
+told_of Spent = To.Spent
+told_of Broken = To.Broken
+
+abbrev pub answer_of : Told → Result Bool Halt
+answer_of To.Yes = Ok true
+answer_of To.No = Ok false
+answer_of To.Spent = Err Spent
+answer_of To.Broken = Err Broken
+
+abbrev pub joined_of : Halt → Joined
+joined_of Spent = J.Spent
+joined_of Broken = J.Broken
+
+abbrev pub verdict_of : Joined → Result Verdict Halt
+verdict_of J.Done = Ok V.Done
+verdict_of J.Mismatch = Ok V.Mismatch
+verdict_of J.Circular = Ok V.Circular
+verdict_of J.Spent = Err Spent
+verdict_of J.Broken = Err Broken

@@ -1,9 +1,9 @@
 -- Assignments, and a whole formula.
-use Rattle.std.specs.Prelude.{ℕ, zero, suc, ◌+◌, ◌-◌, ◌*◌, List}
+use Rattle.std.specs.Prelude.{Option, Some, None, ℕ, zero, suc, ◌+◌, ◌-◌, ◌*◌, List}
 use Rattle.types.specs.Limits.{max_depth, levels}
 use Rattle.types.specs.declared.Place.{Place}
-use Rattle.heads.specs.declared.RootAt.{RootAt}
-use Rattle.heads.specs.declared.RootAt.TheVariants.{Wrong, Expression, Predicate, Becomes, BecomesIn, BecomesSuch}
+use Rattle.heads.specs.declared.Root.{Root}
+use Rattle.heads.specs.declared.Root.TheVariants.{Expression, Predicate, Becomes, BecomesIn, BecomesSuch}
 use Rattle.types.specs.Record.{reach}
 use Rattle.heads.specs.Heads.{root_head}
 use Rattle.forms.specs.Forms.{then}
@@ -71,13 +71,13 @@ assigned_by f e m =
     then (placed_of e.0 v) λ w. f (with_st w m)
 
 -- a formula by its head
-unfoldable pub root_by : List ℕ → List ℕ → RootAt → Mach → Mach
-root_by s env Wrong m = halts m
-root_by s env Expression m = expr_of levels s env m
-root_by s env Predicate m = pred_of levels s env m
-root_by s env (Becomes n e) m = assigned_by (pairs_of s env n) e m
-root_by s env (BecomesIn n e) m = assigned_by (becomes_in_of s env n) e m
-root_by s env (BecomesSuch n e) m = assigned_by (becomes_such_of s env n m.st.at.0) e m
+unfoldable pub root_by : List ℕ → List ℕ → Option Root → Mach → Mach
+root_by s env None m = halts m
+root_by s env (Some Expression) m = expr_of levels s env m
+root_by s env (Some Predicate) m = pred_of levels s env m
+root_by s env (Some (Becomes n e)) m = assigned_by (pairs_of s env n) e m
+root_by s env (Some (BecomesIn n e)) m = assigned_by (becomes_in_of s env n) e m
+root_by s env (Some (BecomesSuch n e)) m = assigned_by (becomes_such_of s env n m.st.at.0) e m
 
 unfoldable pub formula_of : List ℕ → List ℕ → Mach → Mach
 formula_of s env m = then (root_head (reach s) m.st.at) λ h. root_by s env h m

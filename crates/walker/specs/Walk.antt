@@ -1,6 +1,6 @@
 -- What the walk over a formula's bytes does to the machine, record by record, in the code's order. A record is known by its head, the same that
 -- the test of form reads; E and P walk the expressions and predicates below it. Every function takes any bytes; a stopped machine passes through.
-use Rattle.std.specs.Prelude.{ℕ, zero, suc, false, List, eqb}
+use Rattle.std.specs.Prelude.{Option, Some, None, ℕ, zero, suc, false, List, eqb}
 use Rattle.types.specs.Limits.{levels, max_names}
 use Rattle.types.specs.declared.NodeRef.{NodeRef}
 use Rattle.types.specs.declared.Place.{Place}
@@ -8,18 +8,18 @@ use Rattle.heads.specs.declared.ExprHead.{ExprHead}
 use Rattle.heads.specs.declared.ExprHead.TheVariants.{Free, Bound, Literal, Atomic, Extension, Truth, Binary, Associative, Unary, Quantified, Ascribed, Explicit}
 use Rattle.heads.specs.declared.PredHead.{PredHead}
 use Rattle.heads.specs.declared.PredHead.TheVariants.{Constant, Variable, Relational, Connective, Junction, Negation, Quantification, Simple, Multiple, Application}
-use Rattle.heads.specs.declared.ExprAt.{ExprAt}
-use Rattle.heads.specs.declared.ExprAt.TheVariants as EA
-use Rattle.heads.specs.declared.PredAt.{PredAt}
-use Rattle.heads.specs.declared.PredAt.TheVariants as PA
 use Rattle.types.specs.Record.{reach}
 use Rattle.heads.specs.Heads.{expr_head, pred_head}
-use Rattle.machine.specs.declared.State.{State}
+use Rattle.machine.specs.State.{State}
+use Rattle.operators.specs.declared.Script.{Script}
+use Rattle.operators.specs.declared.Script.TheVariants as Sc
+use Rattle.operators.specs.declared.Mode.{Mode}
+use Rattle.operators.specs.declared.Mode.TheVariants.{Loose, Same, Linked}
 use Rattle.operators.specs.declared.Plan.{Plan}
 use Rattle.forms.specs.Forms.{test, then}
 use Rattle.machine.specs.Machine.{Mach, with_st, stopped_of, placed_of, gave_of, bound_of, paid_of, enter_of, list_of, make_of, expect_of, leave_of}
 use Rattle.machine.specs.Types.{skip_of, free_of, bound_identifier_of, meets_of, ascription_of, declare_of, times_of}
-use Rattle.operators.specs.Operators.{check_atomic_of, check_binary_of, check_unary_of, check_quantified_of, check_relational_of, check_associative_of, nothing, empty_set, power, unknown, finite}
+use Rattle.operators.specs.Operators.{check_atomic_of, check_binary_of, check_unary_of, check_quantified_of, check_relational_of, check_associative_of}
 use Rattle.machine.specs.Scripts.{parts_of, play_of}
 
 -- what cannot happen once the form is tested
@@ -31,11 +31,15 @@ abbrev pub onto : Place → (Mach → Mach) → Mach → Mach
 onto e f m = then (placed_of e.0 m.st) λ v. f (with_st v m)
 
 -- ---- any number of children
-unfoldable pub meet_of : ℕ → ℕ → ℕ → ℕ → Mach → Mach
-meet_of mode x y p m = test (eqb mode 0) (λ _. m) (λ _. expect_of x y p m)
+unfoldable pub meet_of : Mode → ℕ → ℕ → ℕ → Mach → Mach
+meet_of Loose x y p m = m
+meet_of Same x y p m = expect_of x y p m
+meet_of Linked x y p m = expect_of x y p m
 
-unfoldable pub next_of : ℕ → NodeRef → NodeRef → NodeRef
-next_of mode y t = test (eqb mode 2) (λ _. t) (λ _. y)
+unfoldable pub next_of : Mode → NodeRef → NodeRef → NodeRef
+next_of Loose y t = y
+next_of Same y t = y
+next_of Linked y t = t
 
 -- one child: what it is compared with is made, it is walked, and compared
 unfoldable pub child_by : (Mach → Mach) → Plan → NodeRef → Mach → Mach
@@ -61,27 +65,27 @@ all_by E plan n m =
 
 -- the plans of 05, 28 and 29
 abbrev pub extension_plan : Plan
-extension_plan = record { first = unknown; link = nothing; last = power; mode = 1 }
+extension_plan = record { first = Sc.Unknown; link = Sc.Nothing; last = Sc.Power; mode = Same }
 
 abbrev pub multiple_plan : Plan
-multiple_plan = record { first = empty_set; link = nothing; last = nothing; mode = 1 }
+multiple_plan = record { first = Sc.EmptySet; link = Sc.Nothing; last = Sc.Nothing; mode = Same }
 
 abbrev pub application_plan : Plan
-application_plan = record { first = nothing; link = nothing; last = nothing; mode = 0 }
+application_plan = record { first = Sc.Nothing; link = Sc.Nothing; last = Sc.Nothing; mode = Loose }
 
 -- ---- one or two expressions, and a script
-unfoldable pub one_by : (Mach → Mach) → ℕ → ℕ → Mach → Mach
-one_by E n p m =
+unfoldable pub one_by : (Mach → Mach) → Script → ℕ → Mach → Mach
+one_by E script p m =
     then (E m) λ a.
     then (parts_of a.st.last.0 a.st.from.0 0 p p a.st) λ q.
-    play_of n q a
+    play_of script q a
 
-unfoldable pub two_by : (Mach → Mach) → ℕ → ℕ → Mach → Mach
-two_by E n p m =
+unfoldable pub two_by : (Mach → Mach) → Script → ℕ → Mach → Mach
+two_by E script p m =
     then (E m) λ a.
     then (E a) λ b.
     then (parts_of a.st.last.0 a.st.from.0 b.st.last.0 b.st.from.0 p b.st) λ q.
-    play_of n q b
+    play_of script q b
 
 -- ---- 0A: operator o, n declarations
 unfoldable pub quant_by : (Mach → Mach) → (Mach → Mach) → List ℕ → List ℕ → ℕ → ℕ → Place → Mach → Mach
@@ -125,12 +129,12 @@ unfoldable pub body_by : (Mach → Mach) → (Mach → Mach) → List ℕ → Li
 body_by E P s env (Free x e) m = onto e (free_of env x.0 m.st.at.0) m
 body_by E P s env (Bound i e) m = onto e (bound_identifier_of i m.st.at.0) m
 body_by E P s env (Literal e) m = onto e (make_of 0x41 0 0) m
-body_by E P s env (Atomic o e) m = then (check_atomic_of o) λ n. then (parts_of 0 m.st.at.0 0 m.st.at.0 m.st.at.0 m.st) λ p. onto e (play_of n p) m
+body_by E P s env (Atomic o e) m = then (check_atomic_of o) λ script. then (parts_of 0 m.st.at.0 0 m.st.at.0 m.st.at.0 m.st) λ p. onto e (play_of script p) m
 body_by E P s env (Extension n e) m = onto e (all_by E extension_plan n) m
 body_by E P s env (Truth e) m = then (onto e P m) λ a. make_of 0x40 0 0 a
-body_by E P s env (Binary o e) m = then (check_binary_of o) λ n. onto e (two_by E n m.st.at.0) m
+body_by E P s env (Binary o e) m = then (check_binary_of o) λ script. onto e (two_by E script m.st.at.0) m
 body_by E P s env (Associative o n e) m = then (check_associative_of o) λ plan. onto e (all_by E plan n) m
-body_by E P s env (Unary o e) m = then (check_unary_of o) λ n. onto e (one_by E n m.st.at.0) m
+body_by E P s env (Unary o e) m = then (check_unary_of o) λ script. onto e (one_by E script m.st.at.0) m
 body_by E P s env (Quantified o n e) m = quant_by E P s env o n e m
 body_by E P s env (Ascribed e) m = ascribed_by E s env e m
 body_by E P s env (Explicit e) m = halts m
@@ -139,12 +143,12 @@ body_by E P s env (Explicit e) m = halts m
 unfoldable pub pred_body_by : (Mach → Mach) → (Mach → Mach) → List ℕ → List ℕ → PredHead → Mach → Mach
 pred_body_by E P s env (Constant e) m = onto e (λ x. x) m
 pred_body_by E P s env (Variable e) m = onto e (λ x. x) m
-pred_body_by E P s env (Relational o e) m = then (check_relational_of o) λ n. onto e (two_by E n m.st.at.0) m
+pred_body_by E P s env (Relational o e) m = then (check_relational_of o) λ script. onto e (two_by E script m.st.at.0) m
 pred_body_by E P s env (Connective e) m = onto e (times_of P 2) m
 pred_body_by E P s env (Junction n e) m = onto e (times_of P n) m
 pred_body_by E P s env (Negation e) m = onto e P m
 pred_body_by E P s env (Quantification n e) m = pred_quant_by P s env n e m
-pred_body_by E P s env (Simple e) m = onto e (one_by E finite m.st.at.0) m
+pred_body_by E P s env (Simple e) m = onto e (one_by E Sc.Finite m.st.at.0) m
 pred_body_by E P s env (Multiple n e) m = onto e (all_by E multiple_plan n) m
 pred_body_by E P s env (Application n e) m = then (onto e (all_by E application_plan n) m) λ a. list_of 5 m.st.at.0 0xFFFF a
 
@@ -161,24 +165,24 @@ unfoldable pub owned_by : (State → Mach) → Mach → Mach
 owned_by f m = then (enter_of m.st) λ e. entered_by f e m
 
 -- an expression by its head: X for a 0C, whose type stands at a place, f for another one
-unfoldable pub expr_by : (Place → Mach) → (ExprHead → Mach) → ExprAt → Mach → Mach
-expr_by X f EA.Wrong m = halts m
-expr_by X f (EA.Is (Explicit e)) m = X e
-expr_by X f (EA.Is (Free x e)) m = f (Free x e)
-expr_by X f (EA.Is (Bound i e)) m = f (Bound i e)
-expr_by X f (EA.Is (Literal e)) m = f (Literal e)
-expr_by X f (EA.Is (Atomic o e)) m = f (Atomic o e)
-expr_by X f (EA.Is (Extension n e)) m = f (Extension n e)
-expr_by X f (EA.Is (Truth e)) m = f (Truth e)
-expr_by X f (EA.Is (Binary o e)) m = f (Binary o e)
-expr_by X f (EA.Is (Associative o n e)) m = f (Associative o n e)
-expr_by X f (EA.Is (Unary o e)) m = f (Unary o e)
-expr_by X f (EA.Is (Quantified o n e)) m = f (Quantified o n e)
-expr_by X f (EA.Is (Ascribed e)) m = f (Ascribed e)
+unfoldable pub expr_by : (Place → Mach) → (ExprHead → Mach) → Option ExprHead → Mach → Mach
+expr_by X f None m = halts m
+expr_by X f (Some (Explicit e)) m = X e
+expr_by X f (Some (Free x e)) m = f (Free x e)
+expr_by X f (Some (Bound i e)) m = f (Bound i e)
+expr_by X f (Some (Literal e)) m = f (Literal e)
+expr_by X f (Some (Atomic o e)) m = f (Atomic o e)
+expr_by X f (Some (Extension n e)) m = f (Extension n e)
+expr_by X f (Some (Truth e)) m = f (Truth e)
+expr_by X f (Some (Binary o e)) m = f (Binary o e)
+expr_by X f (Some (Associative o n e)) m = f (Associative o n e)
+expr_by X f (Some (Unary o e)) m = f (Unary o e)
+expr_by X f (Some (Quantified o n e)) m = f (Quantified o n e)
+expr_by X f (Some (Ascribed e)) m = f (Ascribed e)
 
-unfoldable pub pred_by : (PredHead → Mach) → PredAt → Mach → Mach
-pred_by f PA.Wrong m = halts m
-pred_by f (PA.Is h) m = f h
+unfoldable pub pred_by : (PredHead → Mach) → Option PredHead → Mach → Mach
+pred_by f None m = halts m
+pred_by f (Some h) m = f h
 
 -- ---- the cycle, at a number of levels
 unfoldable mutual
@@ -215,11 +219,11 @@ body_of l s env h m = body_by (expr_of l s env) (pred_of l s env) s env h m
 abbrev pub pred_body_of : ℕ → List ℕ → List ℕ → PredHead → Mach → Mach
 pred_body_of l s env h m = pred_body_by (expr_of l s env) (pred_of l s env) s env h m
 
-abbrev pub one_of : ℕ → List ℕ → List ℕ → ℕ → ℕ → Mach → Mach
-one_of l s env n p m = one_by (expr_of l s env) n p m
+abbrev pub one_of : ℕ → List ℕ → List ℕ → Script → ℕ → Mach → Mach
+one_of l s env script p m = one_by (expr_of l s env) script p m
 
-abbrev pub two_of : ℕ → List ℕ → List ℕ → ℕ → ℕ → Mach → Mach
-two_of l s env n p m = two_by (expr_of l s env) n p m
+abbrev pub two_of : ℕ → List ℕ → List ℕ → Script → ℕ → Mach → Mach
+two_of l s env script p m = two_by (expr_of l s env) script p m
 
 abbrev pub all_of : ℕ → List ℕ → List ℕ → Plan → ℕ → Mach → Mach
 all_of l s env plan n m = all_by (expr_of l s env) plan n m

@@ -1,681 +1,502 @@
 // The walk over a formula's bytes: expressions and predicates call each other with the remaining depth falling. A record is known by its head,
 // read by the functions of the test of form. Every function takes any bytes: where the form was tested no malformed record is met, and elsewhere
-// the walk may stop with 2.
+// the walk may stop as broken.
 #![tactic(auto)]
 
-ghost use Rattle.std.specs.Prelude.{◌≡◌, ℕ, ◌+◌, ◌*◌, ◌-◌, ◌<◌, ◌≤◌, List, length, get_or};
-ghost use Rattle.machine.specs.Machine.{mach};
+ghost use Rattle.std.specs.Prelude.{◌≡◌};
+ghost use Rattle.machine.specs.Seen.{machine, walked, Kept};
 ghost use Rattle.walker.specs.Walk.{meet_of, next_of, one_of, two_of, all_of, children_of, preds_of, quant_of, pred_quant_of, ascribed_of, body_of, pred_body_of, expr_of, explicit_of, owned_of, pred_of};
 ghost use Rattle.walker.specs.Root.{pairs_of, products_of, belongs_of, becomes_in_of, targets_of, shares_of, such_that_of, becomes_such_of, formula_of};
 
-use heads::{ExprAt, ExprHead, PredAt, PredHead, RootAt};
-use machine::State;
-use operators::Plan;
-use types::{Name, NodeRef, Place};
+use heads::{ExprHead, PredHead, Root};
+use machine::{Machine, Part, Problem, Stop};
+use operators::{Mode, Plan, Script};
+use types::{Atom, Node, NodeRef, Place};
 
 // A child against what it is compared with, unless the mode compares nothing.
-fn meet(
-    work: &mut [u32],
-    output: &mut [u8],
-    size: u32,
-    mode: u8,
-    x: NodeRef,
-    y: NodeRef,
-    place: Place,
-    st: State,
-) -> State
-    ensures { mach size result work.new output.new ≡ meet_of mode x.0 y.0 place.0 (mach size st work.old output.old) }
+#[tactic(auto, using(machine::specs::Seen::still, machine::specs::Still::tests, crate::specs::StillWalk::still), unfolding(crate::specs::Walk::meet_of, forms::specs::Forms::then))]
+fn meet(walk: &mut Machine, mode: Mode, x: NodeRef, y: NodeRef, place: Place) -> Result<(), Stop>
+    ensures value { walked result walk.new ≡ meet_of mode x.0 y.0 place.0 (machine walk.old) }
+    ensures kept { Kept walk.old walk.new }
 {
-    if mode == 0 {
-        return st;
+    match mode {
+        Mode::Loose => Ok(()),
+        Mode::Same | Mode::Linked => walk.expect(x, y, place),
     }
-    machine::expect(work, output, size, x, y, place, st)
 }
 
 // What the next child begins with.
-fn next(mode: u8, y: NodeRef, t: NodeRef) -> NodeRef
+#[tactic(auto, unfolding(crate::specs::Walk::next_of))]
+fn next(mode: Mode, y: NodeRef, t: NodeRef) -> NodeRef
     ensures { result ≡ next_of mode y t }
 {
-    if mode == 2 {
-        return t;
+    match mode {
+        Mode::Linked => t,
+        Mode::Loose | Mode::Same => y,
     }
-    y
+}
+
+// Where a script is played with fewer than two parts, what stands for the other.
+fn no_part(place: Place) -> Part
+    ensures { result ≡ record { node = record { 0 = 0 }; place = place } }
+{
+    Part {
+        node: NodeRef(0),
+        place,
+    }
 }
 
 // ---- the cycle: expressions and predicates
 
 // An expression, with what stands below it.
+#[tactic(auto, using(machine::specs::Seen::still, machine::specs::Still::tests, crate::specs::StillWalk::still, crate::proofs::Laws::expr_is), unfolding(crate::specs::Walk::expr_by, machine::specs::Machine::stopped_of, forms::specs::Forms::then))]
 #[cycle(walking)]
-fn expr(
-    s: &[u8],
-    env: &[u8],
-    work: &mut [u32],
-    output: &mut [u8],
-    size: u32,
-    left: u32,
-    st: State,
-) -> State
-    ensures { mach size result work.new output.new ≡ expr_of left s.now env.now (mach size st work.old output.old) }
+fn expr(walk: &mut Machine, left: u32) -> Result<(), Stop>
+    ensures value { walked result walk.new ≡ expr_of left walk.old.formula.now walk.old.environment.now (machine walk.old) }
+    ensures kept { Kept walk.old walk.new }
 {
-    match heads::expr_head(s, types::MAX_NAMES, false, st.at) {
-        ExprAt::Wrong => machine::stopped(2, st),
-        ExprAt::Is(h) => match h {
-            ExprHead::Explicit(e) => explicit(s, env, work, output, size, left, e, st),
-            _ => owned(s, env, work, output, size, left, h, st),
-        },
+    let found = heads::expr_head(walk.formula, types::MAX_NAMES, false, walk.at);
+    let head = found.ok_or(Stop::Broken)?;
+    match head {
+        ExprHead::Explicit(e) => explicit(walk, left, e),
+        _ => owned(walk, left, head),
     }
 }
 
 // 0C, an expression of a stated type, the type at e: the comparison stands at the expression's own place, after its walk.
+#[tactic(auto, using(machine::specs::Seen::still, machine::specs::Still::tests, crate::specs::StillWalk::still, crate::proofs::Laws::levels), unfolding(crate::specs::Walk::paid_by, crate::specs::Walk::entered_by, crate::specs::Walk::typed_by, machine::specs::Machine::stopped_of, forms::specs::Forms::then))]
 #[cycle(walking)]
-fn explicit(
-    s: &[u8],
-    env: &[u8],
-    work: &mut [u32],
-    output: &mut [u8],
-    size: u32,
-    left: u32,
-    e: Place,
-    st: State,
-) -> State
-    ensures { mach size result work.new output.new ≡ explicit_of left s.now env.now e (mach size st work.old output.old) }
+fn explicit(walk: &mut Machine, left: u32, e: Place) -> Result<(), Stop>
+    ensures value { walked result walk.new ≡ explicit_of left walk.old.formula.now walk.old.environment.now e (machine walk.old) }
+    ensures kept { Kept walk.old walk.new }
 {
-    let a = machine::paid(st);
-    if a.stop != 0 {
-        return a;
-    }
+    walk.paid()?;
     if left == 0 {
-        return machine::stopped(2, a);
+        return Err(Stop::Broken);
     }
-    let b = machine::skip(s, types::LEVELS, machine::placed(e, a));
-    let v = expr(s, env, work, output, size, left - 1, b);
-    let x = v.last;
-    let from = v.from;
-    let after = v.at;
-    let c = machine::placed(e, v);
-    let d = machine::meets(s, work, output, size, x, from, c);
-    machine::gave(x, machine::placed(after, d))
+    walk.placed(e);
+    walk.skip(types::LEVELS)?;
+    expr(walk, left - 1)?;
+    let part = walk.part();
+    let after = walk.at;
+    walk.placed(e);
+    walk.meets(part.node, part.place)?;
+    walk.placed(after);
+    walk.gave(part.node);
+    Ok(())
 }
 
 // Any other expression, with its head. Its slot is taken before its parts' and filled after them.
+#[tactic(auto, using(machine::specs::Seen::still, machine::specs::Still::tests, crate::specs::StillWalk::still, crate::proofs::Laws::levels), unfolding(crate::specs::Walk::owned_by, crate::specs::Walk::entered_by, machine::specs::Machine::stopped_of, forms::specs::Forms::then))]
 #[cycle(walking)]
-fn owned(
-    s: &[u8],
-    env: &[u8],
-    work: &mut [u32],
-    output: &mut [u8],
-    size: u32,
-    left: u32,
-    h: ExprHead,
-    st: State,
-) -> State
-    ensures { mach size result work.new output.new ≡ owned_of left s.now env.now h (mach size st work.old output.old) }
+fn owned(walk: &mut Machine, left: u32, head: ExprHead) -> Result<(), Stop>
+    ensures value { walked result walk.new ≡ owned_of left walk.old.formula.now walk.old.environment.now head (machine walk.old) }
+    ensures kept { Kept walk.old walk.new }
 {
-    let place = st.at;
-    let slot = st.slots;
-    let e = machine::enter(st);
-    if e.stop != 0 {
-        return e;
-    }
+    let place = walk.at;
+    let slot = walk.slots;
+    walk.enter()?;
     if left == 0 {
-        return machine::stopped(2, e);
+        return Err(Stop::Broken);
     }
-    let v = body(s, env, work, output, size, left - 1, h, e);
-    machine::leave(work, size, slot, place, v)
+    body(walk, left - 1, head)?;
+    walk.leave(slot, place);
+    Ok(())
 }
 
 // The rule of an expression, by its head.
+#[tactic(auto, using(machine::specs::Seen::still, machine::specs::Still::tests, crate::specs::StillWalk::still), unfolding(crate::specs::Walk::body_by, machine::specs::Machine::stopped_of, machine::specs::Types::atom_of, types::specs::Code::atom_is, machine::specs::Scripts::parts_of, forms::specs::Forms::then))]
 #[cycle(walking)]
-fn body(
-    s: &[u8],
-    env: &[u8],
-    work: &mut [u32],
-    output: &mut [u8],
-    size: u32,
-    left: u32,
-    h: ExprHead,
-    st: State,
-) -> State
-    ensures { mach size result work.new output.new ≡ body_of left s.now env.now h (mach size st work.old output.old) }
+fn body(walk: &mut Machine, left: u32, head: ExprHead) -> Result<(), Stop>
+    ensures value { walked result walk.new ≡ body_of left walk.old.formula.now walk.old.environment.now head (machine walk.old) }
+    ensures kept { Kept walk.old walk.new }
 {
-    let at = st.at;
-    match h {
+    let at = walk.at;
+    match head {
         ExprHead::Free(x, e) => {
-            machine::free_identifier(env, work, size, x, at, machine::placed(e, st))
+            walk.placed(e);
+            walk.free_identifier(x, at)
         }
         ExprHead::Bound(i, e) => {
-            let index = i as u32;
-            machine::bound_identifier(work, output, size, index, at, machine::placed(e, st))
+            walk.placed(e);
+            walk.bound_identifier(u32::from(i), at)
         }
-        ExprHead::Literal(e) => machine::make(work, size, 0x41, 0, 0, machine::placed(e, st)),
+        ExprHead::Literal(e) => {
+            walk.placed(e);
+            walk.make(Node::Leaf(Atom::Integer))
+        }
         ExprHead::Atomic(o, e) => {
-            let n = operators::check_atomic(o);
-            let p = machine::played_with(NodeRef(0), at, NodeRef(0), at, at, st);
-            machine::play(work, output, size, n, p, machine::placed(e, st))
+            walk.placed(e);
+            walk.play(operators::check_atomic(o), no_part(at), no_part(at), at)
         }
         ExprHead::Extension(n, e) => {
-            let a = machine::placed(e, st);
-            all(s, env, work, output, size, left, EXTENSION, n, a)
+            walk.placed(e);
+            all(walk, left, EXTENSION, n)
         }
         ExprHead::Truth(e) => {
-            let a = pred(s, env, work, output, size, left, machine::placed(e, st));
-            machine::make(work, size, 0x40, 0, 0, a)
+            walk.placed(e);
+            pred(walk, left)?;
+            walk.make(Node::Leaf(Atom::Bool))
         }
         ExprHead::Binary(o, e) => {
-            let n = operators::check_binary(o);
-            let a = machine::placed(e, st);
-            two(s, env, work, output, size, left, n, at, a)
+            walk.placed(e);
+            two(walk, left, operators::check_binary(o), at)
         }
         ExprHead::Associative(o, n, e) => {
-            let plan = operators::check_associative(o);
-            let a = machine::placed(e, st);
-            all(s, env, work, output, size, left, plan, n, a)
+            walk.placed(e);
+            all(walk, left, operators::check_associative(o), n)
         }
         ExprHead::Unary(o, e) => {
-            let n = operators::check_unary(o);
-            let a = machine::placed(e, st);
-            one(s, env, work, output, size, left, n, at, a)
+            walk.placed(e);
+            one(walk, left, operators::check_unary(o), at)
         }
-        ExprHead::Quantified(o, n, e) => quant(s, env, work, output, size, left, o, n, e, st),
-        ExprHead::Ascribed(e) => ascribed(s, env, work, output, size, left, e, st),
-        ExprHead::Explicit(_) => machine::stopped(2, st),
+        ExprHead::Quantified(o, n, e) => quant(walk, left, o, n, e),
+        ExprHead::Ascribed(e) => ascribed(walk, left, e),
+        ExprHead::Explicit(_) => Err(Stop::Broken),
     }
 }
 
 // 0B, an expression whose type is ascribed: the ascription stands behind it, and is compared at the record's place.
+#[tactic(auto, using(machine::specs::Seen::still, machine::specs::Still::tests, crate::specs::StillWalk::still), unfolding(crate::specs::Walk::ascribed_by, forms::specs::Forms::then))]
 #[cycle(walking)]
-fn ascribed(
-    s: &[u8],
-    env: &[u8],
-    work: &mut [u32],
-    output: &mut [u8],
-    size: u32,
-    left: u32,
-    e: Place,
-    st: State,
-) -> State
-    ensures { mach size result work.new output.new ≡ ascribed_of left s.now env.now e (mach size st work.old output.old) }
+fn ascribed(walk: &mut Machine, left: u32, e: Place) -> Result<(), Stop>
+    ensures value { walked result walk.new ≡ ascribed_of left walk.old.formula.now walk.old.environment.now e (machine walk.old) }
+    ensures kept { Kept walk.old walk.new }
 {
-    let at = st.at;
-    let a = expr(s, env, work, output, size, left, machine::placed(e, st));
-    let x = a.last;
-    let b = machine::ascription(s, env, work, output, size, x, at, a);
-    machine::gave(x, b)
+    let at = walk.at;
+    walk.placed(e);
+    expr(walk, left)?;
+    let x = walk.last;
+    walk.ascription(x, at)?;
+    walk.gave(x);
+    Ok(())
 }
 
 // One expression, and then a script.
+#[tactic(auto, using(machine::specs::Seen::still, machine::specs::Still::tests, crate::specs::StillWalk::still), unfolding(crate::specs::Walk::one_by, forms::specs::Forms::then))]
 #[cycle(walking)]
-fn one(
-    s: &[u8],
-    env: &[u8],
-    work: &mut [u32],
-    output: &mut [u8],
-    size: u32,
-    left: u32,
-    n: u8,
-    place: Place,
-    st: State,
-) -> State
-    ensures { mach size result work.new output.new ≡ one_of left s.now env.now n place.0 (mach size st work.old output.old) }
+fn one(walk: &mut Machine, left: u32, script: Script, place: Place) -> Result<(), Stop>
+    ensures value { walked result walk.new ≡ one_of left walk.old.formula.now walk.old.environment.now script place.0 (machine walk.old) }
+    ensures kept { Kept walk.old walk.new }
 {
-    let a = expr(s, env, work, output, size, left, st);
-    let x = a.last;
-    let from = a.from;
-    let p = machine::played_with(x, from, NodeRef(0), place, place, a);
-    machine::play(work, output, size, n, p, a)
+    expr(walk, left)?;
+    walk.play(script, walk.part(), no_part(place), place)
 }
 
 // Two expressions, and then a script.
+#[tactic(auto, using(machine::specs::Seen::still, machine::specs::Still::tests, crate::specs::StillWalk::still), unfolding(crate::specs::Walk::two_by, forms::specs::Forms::then))]
 #[cycle(walking)]
-fn two(
-    s: &[u8],
-    env: &[u8],
-    work: &mut [u32],
-    output: &mut [u8],
-    size: u32,
-    left: u32,
-    n: u8,
-    place: Place,
-    st: State,
-) -> State
-    ensures { mach size result work.new output.new ≡ two_of left s.now env.now n place.0 (mach size st work.old output.old) }
+fn two(walk: &mut Machine, left: u32, script: Script, place: Place) -> Result<(), Stop>
+    ensures value { walked result walk.new ≡ two_of left walk.old.formula.now walk.old.environment.now script place.0 (machine walk.old) }
+    ensures kept { Kept walk.old walk.new }
 {
-    let a = expr(s, env, work, output, size, left, st);
-    let x = a.last;
-    let xfrom = a.from;
-    let b = expr(s, env, work, output, size, left, a);
-    let y = b.last;
-    let yfrom = b.from;
-    let p = machine::played_with(x, xfrom, y, yfrom, place, b);
-    machine::play(work, output, size, n, p, b)
+    expr(walk, left)?;
+    let first = walk.part();
+    expr(walk, left)?;
+    let second = walk.part();
+    walk.play(script, first, second, place)
 }
 
 // The plans of a set extension, of a multiple predicate and of a predicate's application.
 const EXTENSION: Plan = Plan {
-    first: operators::UNKNOWN,
-    link: operators::NOTHING,
-    last: operators::POWER,
-    mode: 1,
+    first: Script::Unknown,
+    link: Script::Nothing,
+    last: Script::Power,
+    mode: Mode::Same,
 };
 
 const MULTIPLE: Plan = Plan {
-    first: operators::EMPTY_SET,
-    link: operators::NOTHING,
-    last: operators::NOTHING,
-    mode: 1,
+    first: Script::EmptySet,
+    link: Script::Nothing,
+    last: Script::Nothing,
+    mode: Mode::Same,
 };
 
 const APPLICATION: Plan = Plan {
-    first: operators::NOTHING,
-    link: operators::NOTHING,
-    last: operators::NOTHING,
-    mode: 0,
+    first: Script::Nothing,
+    link: Script::Nothing,
+    last: Script::Nothing,
+    mode: Mode::Loose,
 };
 
 // Any number of expressions, by a plan.
+#[tactic(auto, using(machine::specs::Seen::still, machine::specs::Still::tests, crate::specs::StillWalk::still), unfolding(crate::specs::Walk::all_by, machine::specs::Scripts::parts_of, forms::specs::Forms::then))]
 #[cycle(walking)]
-fn all(
-    s: &[u8],
-    env: &[u8],
-    work: &mut [u32],
-    output: &mut [u8],
-    size: u32,
-    left: u32,
-    plan: Plan,
-    n: u16,
-    st: State,
-) -> State
-    ensures { mach size result work.new output.new ≡ all_of left s.now env.now plan n (mach size st work.old output.old) }
+fn all(walk: &mut Machine, left: u32, plan: Plan, n: u16) -> Result<(), Stop>
+    ensures value { walked result walk.new ≡ all_of left walk.old.formula.now walk.old.environment.now plan n (machine walk.old) }
+    ensures kept { Kept walk.old walk.new }
 {
-    let none = NodeRef(0);
-    let at = st.at;
-    let p = machine::played_with(none, at, none, at, at, st);
-    let a = machine::play(work, output, size, plan.first, p, st);
-    let x = a.last;
-    let b = each(s, env, work, output, size, left, plan, x, n, a);
-    let y = b.last;
-    let q = machine::played_with(x, at, y, at, at, b);
-    machine::play(work, output, size, plan.last, q, b)
+    let at = walk.at;
+    walk.play(plan.first, no_part(at), no_part(at), at)?;
+    let x = walk.last;
+    each(walk, left, plan, x, n)?;
+    let first = Part { node: x, place: at };
+    let last = Part {
+        node: walk.last,
+        place: at,
+    };
+    walk.play(plan.last, first, last, at)
 }
 
 // n expressions, one after the other. The last reference is then where the last of them ended.
+#[tactic(auto, using(machine::specs::Seen::still, machine::specs::Still::tests, crate::specs::StillWalk::still, crate::proofs::Laws::turns), unfolding(crate::specs::Walk::child_by, forms::specs::Forms::then))]
 #[cycle(walking)]
-fn each(
-    s: &[u8],
-    env: &[u8],
-    work: &mut [u32],
-    output: &mut [u8],
-    size: u32,
-    left: u32,
-    plan: Plan,
-    x: NodeRef,
-    n: u16,
-    st: State,
-) -> State
-    ensures { mach size result work.new output.new ≡ children_of left s.now env.now plan n x (mach size st work.old output.old) }
+fn each(walk: &mut Machine, left: u32, plan: Plan, x: NodeRef, n: u16) -> Result<(), Stop>
+    ensures value { walked result walk.new ≡ children_of left walk.old.formula.now walk.old.environment.now plan n x (machine walk.old) }
+    ensures kept { Kept walk.old walk.new }
 {
-    let mut v = st;
     let mut y = x;
-    let mut i = n;
-    while 0 < i {
-        let t = NodeRef(v.nodes);
-        let at = v.at;
-        let p = machine::played_with(y, at, y, at, at, v);
-        let a = machine::play(work, output, size, plan.link, p, v);
-        let z = a.last;
-        let b = expr(s, env, work, output, size, left, a);
-        let w = b.last;
-        let from = b.from;
-        v = meet(work, output, size, plan.mode, w, z, from, b);
+    for _ in 0..n {
+        let t = NodeRef(walk.nodes);
+        let part = Part {
+            node: y,
+            place: walk.at,
+        };
+        walk.play(plan.link, part, part, part.place)?;
+        let z = walk.last;
+        expr(walk, left)?;
+        let child = walk.part();
+        meet(walk, plan.mode, child.node, z, child.place)?;
         y = next(plan.mode, y, t);
-        i -= 1;
     }
-    machine::gave(y, v)
+    walk.gave(y);
+    Ok(())
 }
 
 // 0A, a quantified expression: its operator, its declarations' count, and where they begin.
+#[tactic(auto, using(machine::specs::Seen::still, machine::specs::Still::tests, crate::specs::StillWalk::still), unfolding(crate::specs::Walk::quant_by, forms::specs::Forms::then))]
 #[cycle(walking)]
-fn quant(
-    s: &[u8],
-    env: &[u8],
-    work: &mut [u32],
-    output: &mut [u8],
-    size: u32,
-    left: u32,
-    o: u8,
-    n: u8,
-    e: Place,
-    st: State,
-) -> State
-    ensures { mach size result work.new output.new ≡ quant_of left s.now env.now o n e (mach size st work.old output.old) }
+fn quant(walk: &mut Machine, left: u32, o: u8, n: u8, e: Place) -> Result<(), Stop>
+    ensures value { walked result walk.new ≡ quant_of left walk.old.formula.now walk.old.environment.now o n e (machine walk.old) }
+    ensures kept { Kept walk.old walk.new }
 {
-    let at = st.at;
-    let around = st.bound;
-    let k = operators::check_quantified(o);
-    let a = machine::declare(s, env, work, output, size, n, machine::placed(e, st));
-    let b = pred(s, env, work, output, size, left, a);
-    let c = one(s, env, work, output, size, left, k, at, b);
-    machine::bounded(around, c)
+    let at = walk.at;
+    let around = walk.bound;
+    walk.placed(e);
+    walk.declare(n)?;
+    pred(walk, left)?;
+    one(walk, left, operators::check_quantified(o), at)?;
+    walk.bounded(around);
+    Ok(())
 }
 
 // A predicate, with what stands below it.
+#[tactic(auto, using(machine::specs::Seen::still, machine::specs::Still::tests, crate::specs::StillWalk::still, crate::proofs::Laws::levels), unfolding(crate::specs::Walk::pred_by, crate::specs::Walk::paid_by, crate::specs::Walk::entered_by, machine::specs::Machine::stopped_of, forms::specs::Forms::then))]
 #[cycle(walking)]
-fn pred(
-    s: &[u8],
-    env: &[u8],
-    work: &mut [u32],
-    output: &mut [u8],
-    size: u32,
-    left: u32,
-    st: State,
-) -> State
-    ensures { mach size result work.new output.new ≡ pred_of left s.now env.now (mach size st work.old output.old) }
+fn pred(walk: &mut Machine, left: u32) -> Result<(), Stop>
+    ensures value { walked result walk.new ≡ pred_of left walk.old.formula.now walk.old.environment.now (machine walk.old) }
+    ensures kept { Kept walk.old walk.new }
 {
-    match heads::pred_head(s, st.at) {
-        PredAt::Wrong => machine::stopped(2, st),
-        PredAt::Is(h) => {
-            let e = machine::paid(st);
-            if e.stop != 0 {
-                return e;
-            }
-            if left == 0 {
-                return machine::stopped(2, e);
-            }
-            pbody(s, env, work, output, size, left - 1, h, e)
-        }
+    let head = heads::pred_head(walk.formula, walk.at).ok_or(Stop::Broken)?;
+    walk.paid()?;
+    if left == 0 {
+        return Err(Stop::Broken);
     }
+    pbody(walk, left - 1, head)
 }
 
 // The rule of a predicate, by its head.
+#[tactic(auto, using(machine::specs::Seen::still, machine::specs::Still::tests, crate::specs::StillWalk::still), unfolding(crate::specs::Walk::pred_body_by, forms::specs::Forms::then))]
 #[cycle(walking)]
-fn pbody(
-    s: &[u8],
-    env: &[u8],
-    work: &mut [u32],
-    output: &mut [u8],
-    size: u32,
-    left: u32,
-    h: PredHead,
-    st: State,
-) -> State
-    ensures { mach size result work.new output.new ≡ pred_body_of left s.now env.now h (mach size st work.old output.old) }
+fn pbody(walk: &mut Machine, left: u32, head: PredHead) -> Result<(), Stop>
+    ensures value { walked result walk.new ≡ pred_body_of left walk.old.formula.now walk.old.environment.now head (machine walk.old) }
+    ensures kept { Kept walk.old walk.new }
 {
-    let at = st.at;
-    match h {
-        PredHead::Constant(e) => machine::placed(e, st),
-        PredHead::Variable(e) => machine::placed(e, st),
+    let at = walk.at;
+    match head {
+        PredHead::Constant(e) | PredHead::Variable(e) => {
+            walk.placed(e);
+            Ok(())
+        }
         PredHead::Relational(o, e) => {
-            let n = operators::check_relational(o);
-            let a = machine::placed(e, st);
-            two(s, env, work, output, size, left, n, at, a)
+            walk.placed(e);
+            two(walk, left, operators::check_relational(o), at)
         }
         PredHead::Connective(e) => {
-            preds(s, env, work, output, size, left, 2, machine::placed(e, st))
+            walk.placed(e);
+            preds(walk, left, 2)
         }
         PredHead::Junction(n, e) => {
-            preds(s, env, work, output, size, left, n, machine::placed(e, st))
+            walk.placed(e);
+            preds(walk, left, n)
         }
-        PredHead::Negation(e) => pred(s, env, work, output, size, left, machine::placed(e, st)),
-        PredHead::Quantification(n, e) => pquant(s, env, work, output, size, left, n, e, st),
+        PredHead::Negation(e) => {
+            walk.placed(e);
+            pred(walk, left)
+        }
+        PredHead::Quantification(n, e) => pquant(walk, left, n, e),
         PredHead::Simple(e) => {
-            let a = machine::placed(e, st);
-            one(s, env, work, output, size, left, operators::FINITE, at, a)
+            walk.placed(e);
+            one(walk, left, Script::Finite, at)
         }
         PredHead::Multiple(n, e) => {
-            let a = machine::placed(e, st);
-            all(s, env, work, output, size, left, MULTIPLE, n, a)
+            walk.placed(e);
+            all(walk, left, MULTIPLE, n)
         }
         PredHead::Application(n, e) => {
-            let a = machine::placed(e, st);
-            let b = all(s, env, work, output, size, left, APPLICATION, n, a);
-            machine::list(output, 5, at, Name(machine::NO_NAME), b)
+            walk.placed(e);
+            all(walk, left, APPLICATION, n)?;
+            walk.list(Problem::Application, at, None);
+            Ok(())
         }
     }
 }
 
 // 26, a quantified predicate.
+#[tactic(auto, using(machine::specs::Seen::still, machine::specs::Still::tests, crate::specs::StillWalk::still), unfolding(crate::specs::Walk::pred_quant_by, forms::specs::Forms::then))]
 #[cycle(walking)]
-fn pquant(
-    s: &[u8],
-    env: &[u8],
-    work: &mut [u32],
-    output: &mut [u8],
-    size: u32,
-    left: u32,
-    n: u8,
-    e: Place,
-    st: State,
-) -> State
-    ensures { mach size result work.new output.new ≡ pred_quant_of left s.now env.now n e (mach size st work.old output.old) }
+fn pquant(walk: &mut Machine, left: u32, n: u8, e: Place) -> Result<(), Stop>
+    ensures value { walked result walk.new ≡ pred_quant_of left walk.old.formula.now walk.old.environment.now n e (machine walk.old) }
+    ensures kept { Kept walk.old walk.new }
 {
-    let around = st.bound;
-    let a = machine::declare(s, env, work, output, size, n, machine::placed(e, st));
-    let b = pred(s, env, work, output, size, left, a);
-    machine::bounded(around, b)
+    let around = walk.bound;
+    walk.placed(e);
+    walk.declare(n)?;
+    pred(walk, left)?;
+    walk.bounded(around);
+    Ok(())
 }
 
 // n predicates.
+#[tactic(auto, using(machine::specs::Seen::still, machine::specs::Still::tests, crate::specs::StillWalk::still, machine::proofs::Laws::turns), unfolding(forms::specs::Forms::then))]
 #[cycle(walking)]
-fn preds(
-    s: &[u8],
-    env: &[u8],
-    work: &mut [u32],
-    output: &mut [u8],
-    size: u32,
-    left: u32,
-    n: u16,
-    st: State,
-) -> State
-    ensures { mach size result work.new output.new ≡ preds_of left s.now env.now n (mach size st work.old output.old) }
+fn preds(walk: &mut Machine, left: u32, n: u16) -> Result<(), Stop>
+    ensures value { walked result walk.new ≡ preds_of left walk.old.formula.now walk.old.environment.now n (machine walk.old) }
+    ensures kept { Kept walk.old walk.new }
 {
-    let mut v = st;
-    let mut i = n;
-    while 0 < i {
-        v = pred(s, env, work, output, size, left, v);
-        i -= 1;
+    for _ in 0..n {
+        pred(walk, left)?;
     }
-    v
+    Ok(())
 }
 
 // ---- assignments, and a whole formula
 
 // n pairs: each value against its target, at the value.
-fn pairs(
-    s: &[u8],
-    env: &[u8],
-    work: &mut [u32],
-    output: &mut [u8],
-    size: u32,
-    n: u8,
-    st: State,
-) -> State
-    ensures { mach size result work.new output.new ≡ pairs_of s.now env.now n (mach size st work.old output.old) }
+#[tactic(auto, using(machine::specs::Seen::still, machine::specs::Still::tests, crate::specs::StillWalk::still, machine::proofs::Laws::turns), unfolding(crate::specs::Root::pair_by, forms::specs::Forms::then))]
+fn pairs(walk: &mut Machine, n: u8) -> Result<(), Stop>
+    ensures value { walked result walk.new ≡ pairs_of walk.old.formula.now walk.old.environment.now n (machine walk.old) }
+    ensures kept { Kept walk.old walk.new }
 {
-    let mut v = st;
-    let mut i = n;
-    while 0 < i {
-        let a = expr(s, env, work, output, size, types::MAX_DEPTH, v);
-        let x = a.last;
-        let b = expr(s, env, work, output, size, types::MAX_DEPTH, a);
-        let y = b.last;
-        let from = b.from;
-        v = machine::expect(work, output, size, y, x, from, b);
-        i -= 1;
+    for _ in 0..n {
+        expr(walk, types::MAX_DEPTH)?;
+        let x = walk.last;
+        expr(walk, types::MAX_DEPTH)?;
+        walk.expect(walk.last, x, walk.from)?;
     }
-    v
+    Ok(())
 }
 
 // The product of n targets, which leans left, where the first of them was walked last.
-fn products(
-    s: &[u8],
-    env: &[u8],
-    work: &mut [u32],
-    output: &mut [u8],
-    size: u32,
-    n: u8,
-    st: State,
-) -> State
-    ensures { mach size result work.new output.new ≡ products_of s.now env.now n (mach size st work.old output.old) }
+#[tactic(auto, using(machine::specs::Seen::still, machine::specs::Still::tests, crate::specs::StillWalk::still, machine::proofs::Laws::turns), unfolding(crate::specs::Root::product_by, forms::specs::Forms::then))]
+fn products(walk: &mut Machine, n: u8) -> Result<(), Stop>
+    ensures value { walked result walk.new ≡ products_of walk.old.formula.now walk.old.environment.now n (machine walk.old) }
+    ensures kept { Kept walk.old walk.new }
 {
-    let mut v = st;
-    let mut i = n;
-    while 1 < i {
-        let x = v.last;
-        let a = expr(s, env, work, output, size, types::MAX_DEPTH, v);
-        let y = a.last;
-        v = machine::make(work, size, 0x44, x.0, y.0, a);
-        i -= 1;
+    for _ in 1..n {
+        let x = walk.last;
+        expr(walk, types::MAX_DEPTH)?;
+        walk.make(Node::Product(x, walk.last))?;
     }
-    v
+    Ok(())
 }
 
 // A set against the power of what was walked last, at the set.
-fn belongs(s: &[u8], env: &[u8], work: &mut [u32], output: &mut [u8], size: u32, st: State) -> State
-    ensures { mach size result work.new output.new ≡ belongs_of s.now env.now (mach size st work.old output.old) }
+#[tactic(auto, using(machine::specs::Seen::still, machine::specs::Still::tests, crate::specs::StillWalk::still), unfolding(crate::specs::Root::belongs_of, forms::specs::Forms::then))]
+fn belongs(walk: &mut Machine) -> Result<(), Stop>
+    ensures value { walked result walk.new ≡ belongs_of walk.old.formula.now walk.old.environment.now (machine walk.old) }
+    ensures kept { Kept walk.old walk.new }
 {
-    let x = st.last;
-    let a = machine::make(work, size, 0x43, x.0, 0, st);
-    let y = a.last;
-    let b = expr(s, env, work, output, size, types::MAX_DEPTH, a);
-    let z = b.last;
-    let from = b.from;
-    machine::expect(work, output, size, z, y, from, b)
+    walk.make(Node::Power(walk.last))?;
+    let y = walk.last;
+    expr(walk, types::MAX_DEPTH)?;
+    walk.expect(walk.last, y, walk.from)
 }
 
 // The targets' product, and a set that it belongs to.
-fn becomes_in(
-    s: &[u8],
-    env: &[u8],
-    work: &mut [u32],
-    output: &mut [u8],
-    size: u32,
-    n: u8,
-    st: State,
-) -> State
-    ensures { mach size result work.new output.new ≡ becomes_in_of s.now env.now n (mach size st work.old output.old) }
+#[tactic(auto, using(machine::specs::Seen::still, machine::specs::Still::tests, crate::specs::StillWalk::still), unfolding(crate::specs::Root::becomes_in_of, forms::specs::Forms::then))]
+fn becomes_in(walk: &mut Machine, n: u8) -> Result<(), Stop>
+    ensures value { walked result walk.new ≡ becomes_in_of walk.old.formula.now walk.old.environment.now n (machine walk.old) }
+    ensures kept { Kept walk.old walk.new }
 {
-    let a = expr(s, env, work, output, size, types::MAX_DEPTH, st);
-    let b = products(s, env, work, output, size, n, a);
-    belongs(s, env, work, output, size, b)
+    expr(walk, types::MAX_DEPTH)?;
+    products(walk, n)?;
+    belongs(walk)
 }
 
 // n targets, one after the other.
-fn targets(
-    s: &[u8],
-    env: &[u8],
-    work: &mut [u32],
-    output: &mut [u8],
-    size: u32,
-    n: u8,
-    st: State,
-) -> State
-    ensures { mach size result work.new output.new ≡ targets_of s.now env.now n (mach size st work.old output.old) }
+#[tactic(auto, using(machine::specs::Seen::still, machine::specs::Still::tests, crate::specs::StillWalk::still, machine::proofs::Laws::turns), unfolding(forms::specs::Forms::then))]
+fn targets(walk: &mut Machine, n: u8) -> Result<(), Stop>
+    ensures value { walked result walk.new ≡ targets_of walk.old.formula.now walk.old.environment.now n (machine walk.old) }
+    ensures kept { Kept walk.old walk.new }
 {
-    let mut v = st;
-    let mut i = n;
-    while 0 < i {
-        v = expr(s, env, work, output, size, types::MAX_DEPTH, v);
-        i -= 1;
+    for _ in 0..n {
+        expr(walk, types::MAX_DEPTH)?;
     }
-    v
-}
-
-// A byte as a number that can be counted up to.
-fn number(b: u8) -> u32
-    ensures value { result ≡ b }
-    ensures upper_bound { result < 256 }
-{
-    b as u32
+    Ok(())
 }
 
 // Each of n declarations against its target: the slots of both stand one after the other, from the first target's on.
-fn shares(
-    work: &mut [u32],
-    output: &mut [u8],
-    size: u32,
-    first: u32,
-    n: u8,
-    place: Place,
-    st: State,
-) -> State
-    ensures { mach size result work.new output.new ≡ shares_of first n place.0 (mach size st work.old output.old) }
+#[tactic(auto, using(machine::specs::Seen::still, machine::specs::Still::tests, crate::specs::StillWalk::still, crate::proofs::Laws::turns), unfolding(crate::specs::Root::shares_of, crate::specs::Root::share_by, forms::specs::Forms::then))]
+fn shares(walk: &mut Machine, first: u32, n: u8, place: Place) -> Result<(), Stop>
+    ensures value { walked result walk.new ≡ shares_of first n place.0 (machine walk.old) }
+    ensures kept { Kept walk.old walk.new }
 {
-    let until = number(n);
-    let mut v = st;
-    let mut i: u32 = 0;
-    while i < until {
-        let x = NodeRef(machine::read(work, size, machine::SLOTS, 2, first, i * 2));
-        let y = NodeRef(machine::read(work, size, machine::SLOTS, 2, first, (until + i) * 2));
-        v = machine::expect(work, output, size, y, x, place, v);
-        i += 1;
+    let until = u32::from(n);
+    for i in 0..until {
+        let x = NodeRef(walk.read(machine::SLOTS, first, i * 2));
+        let y = NodeRef(walk.read(machine::SLOTS, first, (until + i) * 2));
+        walk.expect(y, x, place)?;
     }
-    v
+    Ok(())
 }
 
 // Declarations that share their targets' types, and the predicate under them.
-fn such_that(
-    s: &[u8],
-    env: &[u8],
-    work: &mut [u32],
-    output: &mut [u8],
-    size: u32,
-    first: u32,
-    n: u8,
-    place: Place,
-    st: State,
-) -> State
-    ensures { mach size result work.new output.new ≡ such_that_of s.now env.now first n place.0 (mach size st work.old output.old) }
+#[tactic(auto, using(machine::specs::Seen::still, machine::specs::Still::tests, crate::specs::StillWalk::still), unfolding(crate::specs::Root::such_that_of, forms::specs::Forms::then))]
+fn such_that(walk: &mut Machine, first: u32, n: u8, place: Place) -> Result<(), Stop>
+    ensures value { walked result walk.new ≡ such_that_of walk.old.formula.now walk.old.environment.now first n place.0 (machine walk.old) }
+    ensures kept { Kept walk.old walk.new }
 {
-    let a = shares(work, output, size, first, n, place, st);
-    pred(s, env, work, output, size, types::MAX_DEPTH, a)
+    shares(walk, first, n, place)?;
+    pred(walk, types::MAX_DEPTH)
 }
 
 // n targets, n declarations, and a predicate.
-fn becomes_such(
-    s: &[u8],
-    env: &[u8],
-    work: &mut [u32],
-    output: &mut [u8],
-    size: u32,
-    n: u8,
-    place: Place,
-    st: State,
-) -> State
-    ensures { mach size result work.new output.new ≡ becomes_such_of s.now env.now n place.0 (mach size st work.old output.old) }
+#[tactic(auto, using(machine::specs::Seen::still, machine::specs::Still::tests, crate::specs::StillWalk::still), unfolding(crate::specs::Root::becomes_such_of, forms::specs::Forms::then))]
+fn becomes_such(walk: &mut Machine, n: u8, place: Place) -> Result<(), Stop>
+    ensures value { walked result walk.new ≡ becomes_such_of walk.old.formula.now walk.old.environment.now n place.0 (machine walk.old) }
+    ensures kept { Kept walk.old walk.new }
 {
-    let first = st.slots;
-    let a = targets(s, env, work, output, size, n, st);
-    let b = machine::declare(s, env, work, output, size, n, a);
-    such_that(s, env, work, output, size, first, n, place, b)
+    let first = walk.slots;
+    targets(walk, n)?;
+    walk.declare(n)?;
+    such_that(walk, first, n, place)
 }
 
 // A whole formula.
-pub fn formula(
-    s: &[u8],
-    env: &[u8],
-    work: &mut [u32],
-    output: &mut [u8],
-    size: u32,
-    st: State,
-) -> State
-    ensures { mach size result work.new output.new ≡ formula_of s.now env.now (mach size st work.old output.old) }
+#[tactic(auto, using(machine::specs::Seen::still, machine::specs::Still::tests, crate::specs::StillWalk::still), unfolding(crate::specs::Root::formula_of, crate::specs::Root::root_by, machine::specs::Machine::stopped_of, forms::specs::Forms::then))]
+pub fn formula(walk: &mut Machine) -> Result<(), Stop>
+    ensures value { walked result walk.new ≡ formula_of walk.old.formula.now walk.old.environment.now (machine walk.old) }
+    ensures kept { Kept walk.old walk.new }
 {
-    let at = st.at;
-    match heads::root_head(s, at) {
-        RootAt::Wrong => machine::stopped(2, st),
-        RootAt::Expression => expr(s, env, work, output, size, types::LEVELS, st),
-        RootAt::Predicate => pred(s, env, work, output, size, types::LEVELS, st),
-        RootAt::Becomes(n, e) => {
-            let a = machine::placed(e, machine::paid(st));
-            pairs(s, env, work, output, size, n, a)
+    let at = walk.at;
+    match heads::root_head(walk.formula, at).ok_or(Stop::Broken)? {
+        Root::Expression => expr(walk, types::LEVELS),
+        Root::Predicate => pred(walk, types::LEVELS),
+        Root::Becomes(n, e) => {
+            walk.paid()?;
+            walk.placed(e);
+            pairs(walk, n)
         }
-        RootAt::BecomesIn(n, e) => {
-            let a = machine::placed(e, machine::paid(st));
-            becomes_in(s, env, work, output, size, n, a)
+        Root::BecomesIn(n, e) => {
+            walk.paid()?;
+            walk.placed(e);
+            becomes_in(walk, n)
         }
-        RootAt::BecomesSuch(n, e) => {
-            let a = machine::placed(e, machine::paid(st));
-            becomes_such(s, env, work, output, size, n, at, a)
+        Root::BecomesSuch(n, e) => {
+            walk.paid()?;
+            walk.placed(e);
+            becomes_such(walk, n, at)
         }
     }
 }

@@ -1,12 +1,13 @@
-use Rattle.std.proofs.Common.{refl}
-use Rattle.forms.specs.Forms.{yes_if, no_if}
+use Rattle.std.proofs.Common.{arith}
+use Rattle.std.proofs.lemmas.Grind.{common_steps}
+use Rattle.forms.specs.Forms.{test}
 use Rattle.finisher.specs.Finisher.{clean_of}
 use Rattle.finisher.proofs.clean.Goals as goal
 
-pub returns-then-st : goal.returns-then-st
-unfolding clean_of
-returns-then-st c = yes_if _ _ _ _ c.if-st.true refl
+pub returns-then-not-walk : goal.returns-then-not-walk
+unfolding clean_of test
+returns-then-not-walk c = grind (arith, common_steps)
 
-pub returns : goal.returns
-unfolding clean_of
-returns c = no_if _ _ _ _ c.if-st.false refl
+pub returns-else-not-walk : goal.returns-else-not-walk
+unfolding clean_of test
+returns-else-not-walk c = grind (arith, common_steps)

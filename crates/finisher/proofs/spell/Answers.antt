@@ -1,31 +1,23 @@
-use Rattle.std.proofs.Common.{◌∙◌, refl, sym, ap}
-use Rattle.forms.specs.Forms.{yes_if, no_if, yes_eq, no_eq}
-use Rattle.write.specs.declared.Wrote.{Wrote}
-use Rattle.write.specs.Answers.{laid}
+use Rattle.std.proofs.Common.{arith}
+use Rattle.forms.specs.Forms.{test}
+use Rattle.machine.specs.Machine.{stopped_of, bytes_of, over_of}
+use Rattle.machine.specs.Still.{tests}
 use Rattle.finisher.specs.Finisher.{spell_of}
-use Rattle.finisher.proofs.Laws.{laid-at, laid_full, laid-spent, laid_broken}
+use Rattle.finisher.proofs.Laws.{spells}
 use Rattle.finisher.proofs.spell.Goals as goal
 
-pub returns-then-st-ne0 : goal.returns-then-st-ne0
+pub returns-then-walk-clause-value : goal.returns-then-walk-clause-value
 unfolding spell_of
-returns-then-st-ne0 c = no_eq _ _ _ _ _ c.if-st-ne0.true refl
+returns-then-walk-clause-value c = grind (arith, tests)
 
-pub returns-then-st : goal.returns-then-st
-unfolding spell_of
-returns-then-st c = yes_eq _ _ _ _ _ c.if-st-ne0.false (yes_if _ _ _ _ c.if-st.true refl)
+pub returns-in-Ok-clause-value : goal.returns-in-Ok-clause-value
+unfolding stopped_of bytes_of over_of test
+returns-in-Ok-clause-value c = let e = rw c.take-work.ensures.value at c.lay-laid.ensures in grind (arith, spells c.args.walk.now c.args.t.0 c.lay-laid.result c.lay-laid.new.left c.lay-laid.new.output c.if-walk.false e)
 
-pub returns-in-At : goal.returns-in-At
-unfolding spell_of
-returns-in-At c = yes_eq _ _ _ _ _ c.if-st-ne0.false (no_if _ _ _ _ c.if-st.false (laid-at c.args.size c.args.st c.written.result c.args.work.now c.args.output.now c.lay-wrote.new.output _ _ _ (ap (λ (x : Wrote). laid x c.lay-wrote.new.output) (sym c.in-At.is) ∙ c.lay-wrote.ensures) c.written.ensures))
+pub returns-in-Err-Full-clause-value : goal.returns-in-Err-Full-clause-value
+unfolding stopped_of bytes_of over_of test
+returns-in-Err-Full-clause-value c = let e = rw c.take-work.ensures.value at c.lay-laid.ensures in grind (arith, spells c.args.walk.now c.args.t.0 c.lay-laid.result c.lay-laid.new.left c.lay-laid.new.output c.if-walk.false e)
 
-pub returns-in-Full : goal.returns-in-Full
-unfolding spell_of
-returns-in-Full c = yes_eq _ _ _ _ _ c.if-st-ne0.false (no_if _ _ _ _ c.if-st.false (laid_full c.args.size c.args.st c.overfull.result c.args.work.now c.args.output.now c.lay-wrote.new.output _ (ap (λ (x : Wrote). laid x c.lay-wrote.new.output) (sym c.in-Full.is) ∙ c.lay-wrote.ensures) c.overfull.ensures))
-
-pub returns-in-Spent : goal.returns-in-Spent
-unfolding spell_of
-returns-in-Spent c = yes_eq _ _ _ _ _ c.if-st-ne0.false (no_if _ _ _ _ c.if-st.false (laid-spent c.args.size c.args.st c.stopped.result c.args.work.now c.args.output.now c.lay-wrote.new.output _ (ap (λ (x : Wrote). laid x c.lay-wrote.new.output) (sym c.in-Spent.is) ∙ c.lay-wrote.ensures) c.stopped.ensures))
-
-pub returns-in-Broken : goal.returns-in-Broken
-unfolding spell_of
-returns-in-Broken c = yes_eq _ _ _ _ _ c.if-st-ne0.false (no_if _ _ _ _ c.if-st.false (laid_broken c.args.size c.args.st c.stopped-in-Broken.result c.args.work.now c.args.output.now c.lay-wrote.new.output _ (ap (λ (x : Wrote). laid x c.lay-wrote.new.output) (sym c.in-Broken.is) ∙ c.lay-wrote.ensures) c.stopped-in-Broken.ensures))
+pub returns-in-Err-Spent-clause-value : goal.returns-in-Err-Spent-clause-value
+unfolding stopped_of bytes_of over_of test
+returns-in-Err-Spent-clause-value c = let e = rw c.take-work.ensures.value at c.lay-laid.ensures in grind (arith, spells c.args.walk.now c.args.t.0 c.lay-laid.result c.lay-laid.new.left c.lay-laid.new.output c.if-walk.false e)

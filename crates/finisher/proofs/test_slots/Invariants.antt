@@ -1,10 +1,7 @@
-use Rattle.std.proofs.Common.{◌≡◌, length, ◌-◌}
-use Rattle.machine.specs.Machine.{mach}
+use Rattle.std.proofs.Common.{◌≡◌, ◌-◌}
+use Rattle.machine.specs.Seen.{machine, Kept}
 use Rattle.finisher.specs.Finisher.{each_of, slot_of}
 use Rattle.finisher.proofs.test_slots.Given as goal
 
 abbrev pub invariant-loop-j : goal.invariant-loop-j
-invariant-loop-j l = (each_of slot_of (l.st.slots - l.j) l.j (mach l.size l.v l.work l.output) ≡ each_of slot_of (l.st.slots - l.initial.j) l.initial.j (mach l.size l.initial.v l.work l.initial.output)) × (length l.output ≡ length l.initial.output)
-
-abbrev pub decreases-loop-j : goal.decreases-loop-j
-decreases-loop-j l = l.st.slots - l.j
+invariant-loop-j l = record { walked : each_of slot_of (l.j-end - l.j) l.j (machine l.walk) ≡ each_of slot_of l.j-end 0 (machine l.initial.walk); kept : Kept l.initial.walk l.walk }

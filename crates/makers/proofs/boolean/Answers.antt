@@ -1,6 +1,6 @@
-use Rattle.unification.specs.Make.{build}
+use Rattle.types.specs.Code.{atom_is}
 use Rattle.makers.proofs.boolean.Goals as goal
 
 pub returns : goal.returns
-unfolding build
-returns c = c.push.ensures
+unfolding atom_is
+returns c = c.make.ensures

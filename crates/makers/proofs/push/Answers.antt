@@ -1,4 +1,4 @@
-use Rattle.std.proofs.Common.{sym, length-set, arith}
+use Rattle.std.proofs.Common.{sym, arith}
 use Rattle.unification.specs.Good.{push_at}
 use Rattle.unification.specs.Make.{make-done, make_full, make-past, make-last}
 use Rattle.makers.proofs.push.Goals as goal
@@ -11,12 +11,6 @@ returns-then-words-at-lt3 c = sym (make_full _ _ _ _ _ c.if-words-at.false (omeg
 
 pub returns-then-count-eq4294967295 : goal.returns-then-count-eq4294967295
 returns-then-count-eq4294967295 c = sym (make-last _ _ _ _ _ (omega (arith, c.if-words-at-lt3.false, c.if-words-at.false)) (omega (arith, c.if-count-eq4294967295.true)))
-
-pub bounds-words-at-2 : goal.bounds-words-at-2
-bounds-words-at-2 c = simp length-set (omega arith)
-
-pub bounds-words-at-3 : goal.bounds-words-at-3
-bounds-words-at-3 c = simp length-set (omega arith)
 
 pub returns : goal.returns
 unfolding push_at

@@ -1,11 +1,7 @@
-use Rattle.std.proofs.Common.{ℕ, ◌-◌, ◌≡◌, List, length}
-use Rattle.machine.specs.declared.State.{State}
-use Rattle.machine.specs.Machine.{mach}
+use Rattle.std.proofs.Common.{◌≡◌, ◌-◌}
+use Rattle.machine.specs.Seen.{machine, Kept}
 use Rattle.runner.specs.Begin.{entered_from}
 use Rattle.runner.proofs.enter_types.Given as goal
 
 abbrev pub invariant-loop-x : goal.invariant-loop-x
-invariant-loop-x l = ((st : State) (out : List ℕ) → entered_from l.types 0 256 (mach l.size st l.initial.work out) ≡ entered_from l.types l.x (256 - l.x) (mach l.size st l.work out)) × (length l.work ≡ length l.initial.work)
-
-abbrev pub decreases-loop-x : goal.decreases-loop-x
-decreases-loop-x l = 256 - l.x
+invariant-loop-x l = record { entered : entered_from l.types l.x (256 - l.x) (machine l.walk) ≡ entered_from l.types 0 256 (machine l.initial.walk); kept : Kept l.initial.walk l.walk }

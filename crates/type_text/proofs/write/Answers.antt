@@ -1,6 +1,7 @@
 -- `write` meets each refusal in its order, and writes only once everything is known to fit.
 use Rattle.std.proofs.Common.{arith, rules, ap, not, ◌∙◌, Err}
 use Rattle.std.proofs.lemmas.Result.{err_from_is_err_and}
+use Rattle.type_text.specs.Put.{lent-ready}
 use Rattle.type_text.specs.Write.{write_table, write_position, write_fault, write_left-over, write_no_room, write_ready, write_done}
 use Rattle.type_text.proofs.write.Goals as goal
 
@@ -34,11 +35,11 @@ returns-then-is_none-clause-value c = (write_no_room c.args.bytes.now c.args.tab
 pub returns-then-is_none-clause-page_after : goal.returns-then-is_none-clause-page_after
 returns-then-is_none-clause-page_after c = (write_no_room c.args.bytes.now c.args.table.now c.args.page.now c.args.position _ c.table_is_good.ensures (ap not c.if-not-table_is_good.false) (omega (arith, c.if-position-page.false)) _ c.count_names.ensures _ c.measure.ensures _ _ c.in_ok-e.was c.if-e-bytes.false c.if-is_none.ensures).1
 
-pub put_at-put-requires : goal.put_at-put-requires
-put_at-put-requires c = write_ready c.args.bytes.now c.args.table.now c.args.page.now c.args.position _ c.table_is_good.ensures (ap not c.if-not-table_is_good.false) (omega (arith, c.if-position-page.false)) _ c.count_names.ensures _ c.measure.ensures _ _ c.in_ok-e.was c.if-e-bytes.false c.if-is_none.ensures
+pub put-put-requires : goal.put-put-requires
+put-put-requires c = lent-ready c.args.page.now (write_ready c.args.bytes.now c.args.table.now c.args.page.now c.args.position _ c.table_is_good.ensures (ap not c.if-not-table_is_good.false) (omega (arith, c.if-position-page.false)) _ c.count_names.ensures _ c.measure.ensures _ _ c.in_ok-e.was c.if-e-bytes.false c.if-is_none.ensures)
 
 pub returns-clause-value : goal.returns-clause-value
-returns-clause-value c = (write_done c.args.bytes.now c.args.table.now c.args.page.now c.args.position _ c.table_is_good.ensures (ap not c.if-not-table_is_good.false) (omega (arith, c.if-position-page.false)) _ c.count_names.ensures _ c.measure.ensures _ _ c.in_ok-e.was c.if-e-bytes.false c.if-is_none.ensures _ _ _ c.put_at-put.ensures).0
+returns-clause-value c = (write_done c.args.bytes.now c.args.table.now c.args.page.now c.args.position _ c.table_is_good.ensures (ap not c.if-not-table_is_good.false) (omega (arith, c.if-position-page.false)) _ c.count_names.ensures _ c.measure.ensures _ _ c.in_ok-e.was c.if-e-bytes.false c.if-is_none.ensures _ _ _ c.put-put.ensures).0
 
 pub returns-clause-page_after : goal.returns-clause-page_after
-returns-clause-page_after c = (write_done c.args.bytes.now c.args.table.now c.args.page.now c.args.position _ c.table_is_good.ensures (ap not c.if-not-table_is_good.false) (omega (arith, c.if-position-page.false)) _ c.count_names.ensures _ c.measure.ensures _ _ c.in_ok-e.was c.if-e-bytes.false c.if-is_none.ensures _ _ _ c.put_at-put.ensures).1
+returns-clause-page_after c = (write_done c.args.bytes.now c.args.table.now c.args.page.now c.args.position _ c.table_is_good.ensures (ap not c.if-not-table_is_good.false) (omega (arith, c.if-position-page.false)) _ c.count_names.ensures _ c.measure.ensures _ _ c.in_ok-e.was c.if-e-bytes.false c.if-is_none.ensures _ _ _ c.put-put.ensures).1

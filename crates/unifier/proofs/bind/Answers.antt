@@ -1,21 +1,17 @@
 use Rattle.std.proofs.Common.{sym, ◌∙◌}
-use Rattle.unification.proofs.CodeLaws.{assign_circular, assign-spent, assign_broken, assign-bound}
-use Rattle.unifier.specs.Answers.{unified_as}
-use Rattle.unifier.proofs.Laws.{as_merged, told_yes, told_no, told-spent, told_broken}
+use Rattle.unification.proofs.CodeLaws.{assign_circular, assign-spent, assign_broken}
+use Rattle.unifier.specs.declared.Told.TheVariants.{Yes, No, Spent, Broken}
+use Rattle.unifier.proofs.Laws.{told_as, assign-merged}
 use Rattle.unifier.proofs.bind.Goals as goal
 
-pub returns-then-found-eq1 : goal.returns-then-found-eq1
-unfolding unified_as
-returns-then-found-eq1 c = as_merged _ _ _ _ c.merge.ensures (assign-bound _ _ _ _ _ _ (sym c.seek-found.ensures ∙ told_no _ _ c.if-found-eq1.true))
+pub returns-in-Yes : goal.returns-in-Yes
+returns-in-Yes c = sym (assign_circular _ _ _ _ _ _ (sym c.seek-found.ensures ∙ told_as _ Yes _ c.in-Yes.is))
 
-pub returns-then-found-eq0 : goal.returns-then-found-eq0
-unfolding unified_as
-returns-then-found-eq0 c = sym (assign_circular _ _ _ _ _ _ (sym c.seek-found.ensures ∙ told_yes _ _ c.if-found-eq0.true))
+pub returns-in-No : goal.returns-in-No
+returns-in-No c = assign-merged _ _ _ _ _ _ _ (sym (told_as _ No _ c.in-No.is) ∙ c.seek-found.ensures) c.merge.ensures
 
-pub returns-then-found-eq7 : goal.returns-then-found-eq7
-unfolding unified_as
-returns-then-found-eq7 c = sym (assign-spent _ _ _ _ _ (sym c.seek-found.ensures ∙ told-spent _ _ c.if-found-eq7.true))
+pub returns-in-Spent : goal.returns-in-Spent
+returns-in-Spent c = sym (assign-spent _ _ _ _ _ (sym c.seek-found.ensures ∙ told_as _ Spent c.seek-found.new.left c.in-Spent.is))
 
-pub returns : goal.returns
-unfolding unified_as
-returns c = sym (assign_broken _ _ _ _ _ (sym c.seek-found.ensures ∙ told_broken _ _ c.if-found-eq0.false c.if-found-eq1.false c.if-found-eq7.false))
+pub returns-in-Broken : goal.returns-in-Broken
+returns-in-Broken c = sym (assign_broken _ _ _ _ _ (sym c.seek-found.ensures ∙ told_as _ Broken c.seek-found.new.left c.in-Broken.is))

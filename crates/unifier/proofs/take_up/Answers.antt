@@ -1,37 +1,41 @@
-use Rattle.std.proofs.Common.{sym, ap, ◌∙◌}
-use Rattle.unification.specs.Tasks.{arrive-stands}
-use Rattle.unification.specs.Code.{take_none, take-left-spent, take-left_broken, take-right-spent, take-right_broken, take_same, take_task}
-use Rattle.unifier.specs.Answers.{arrived, taken}
+use Rattle.std.proofs.Common.{◌≡◌, ◌≢◌, ◌+◌, Err, sym, ap, ◌∙◌, arith, rules}
+use Rattle.meter.specs.Meter.{done}
+use Rattle.unification.specs.Code.{take_none}
+use Rattle.unifier.specs.declared.Halt.TheVariants.{Spent}
+use Rattle.unifier.specs.Answers.{arrived}
+use Rattle.unifier.proofs.Laws.{take-left-halted, take-right-halted, take-one, take-two}
 use Rattle.unifier.proofs.take_up.Goals as goal
 
-pub returns-then-budget-eq0 : goal.returns-then-budget-eq0
-unfolding taken
-returns-then-budget-eq0 c = sym (take_none _ _ _ _ _ c.if-budget-eq0.true)
+pub returns-in_err-paid : goal.returns-in_err-paid
+returns-in_err-paid c =
+    let z : c.args.left.now ≡ 0 = grind arith in
+    let r : c.from_residual.result ≡ Err Spent = grind arith in
+    rw r (sym (take_none _ _ _ _ _ z))
 
-pub returns-then-u-v : goal.returns-then-u-v
-unfolding taken arrived
-returns-then-u-v c = sym (take_same _ _ _ _ _ c.if-budget-eq0.false _ _ (sym c.resolve-first.ensures ∙ ap arrived c.in-At.is) _ _ (sym c.resolve-second.ensures ∙ ap arrived c.in-At-second.is) c.if-u-v.true)
-
-pub compare-requires : goal.compare-requires
+pub returns-in_err-first : goal.returns-in_err-first
 unfolding arrived
-compare-requires c = (arrive-stands _ _ _ _ _ _ (sym c.resolve-first.ensures ∙ ap arrived c.in-At.is)).1
+returns-in_err-first c =
+    let p : c.args.left.now ≡ c.in_ok-paid.paid + 1 = grind arith in
+    let r : c.from_residual-in_err-first.result ≡ Err c.in_err-first.field-0.0 = grind arith in
+    rw r (take-left-halted _ _ _ _ _ _ p _ c.in_err-first.ensures)
 
-pub returns-in-Spent : goal.returns-in-Spent
-unfolding taken arrived
-returns-in-Spent c = sym (take-left-spent _ _ _ _ _ c.if-budget-eq0.false (sym c.resolve-first.ensures ∙ ap arrived c.in-Spent.is))
-
-pub returns-in-Broken : goal.returns-in-Broken
-unfolding taken arrived
-returns-in-Broken c = sym (take-left_broken _ _ _ _ _ c.if-budget-eq0.false (sym c.resolve-first.ensures ∙ ap arrived c.in-Broken.is))
-
-pub returns-in-Spent-second : goal.returns-in-Spent-second
-unfolding taken arrived
-returns-in-Spent-second c = sym (take-right-spent _ _ _ _ _ c.if-budget-eq0.false _ _ (sym c.resolve-first.ensures ∙ ap arrived c.in-At.is) (sym c.resolve-second.ensures ∙ ap arrived c.in-Spent-second.is))
-
-pub returns-in-Broken-second : goal.returns-in-Broken-second
-unfolding taken arrived
-returns-in-Broken-second c = sym (take-right_broken _ _ _ _ _ c.if-budget-eq0.false _ _ (sym c.resolve-first.ensures ∙ ap arrived c.in-At.is) (sym c.resolve-second.ensures ∙ ap arrived c.in-Broken-second.is))
-
-pub returns-else-u-v : goal.returns-else-u-v
+pub returns-in_err-second : goal.returns-in_err-second
 unfolding arrived
-returns-else-u-v c = c.compare.ensures ∙ sym (take_task _ _ _ _ _ c.if-budget-eq0.false _ _ (sym c.resolve-first.ensures ∙ ap arrived c.in-At.is) _ _ (sym c.resolve-second.ensures ∙ ap arrived c.in-At-second.is) c.if-u-v.false)
+returns-in_err-second c =
+    let p : c.args.left.now ≡ c.in_ok-paid.paid + 1 = grind arith in
+    let r : c.from_residual-in_err-second.result ≡ Err c.in_err-second.field-0.0 = grind arith in
+    rw r (take-right-halted _ _ _ _ _ _ p _ _ c.in_ok-first.ensures _ c.in_err-second.ensures)
+
+pub returns-then-eq : goal.returns-then-eq
+unfolding arrived
+returns-then-eq c =
+    let p : c.args.left.now ≡ c.in_ok-paid.paid + 1 = grind arith in
+    let e : c.in_ok-first.first.at.0 ≡ c.in_ok-second.second.at.0 = search rules in
+    take-one _ _ _ _ _ _ p _ _ c.in_ok-first.ensures _ _ c.in_ok-second.ensures e
+
+pub returns : goal.returns
+unfolding arrived
+returns c =
+    let p : c.args.left.now ≡ c.in_ok-paid.paid + 1 = grind arith in
+    let e : c.in_ok-first.first.at.0 ≢ c.in_ok-second.second.at.0 = search rules in
+    ap (λ t. done t c.in_ok-second.second.left) c.compare.ensures ∙ take-two _ _ _ _ _ _ p _ _ c.in_ok-first.ensures _ _ c.in_ok-second.ensures e

@@ -1,20 +1,26 @@
-use Rattle.std.proofs.Common.{sym, ap, ◌∙◌}
-use Rattle.unification.specs.Code.{reach-short, reach-done, reach-spent, reach_broken}
+use Rattle.std.proofs.Common.{◌≡◌, ◌≢◌, ◌-◌, Err, sym, arith}
+use Rattle.unification.specs.Code.{reach-short, reach-done}
+use Rattle.unifier.specs.declared.Halt.TheVariants.{Spent}
 use Rattle.unifier.specs.Answers.{arrived}
+use Rattle.unifier.proofs.Laws.{reach-halted}
 use Rattle.unifier.proofs.visit.Goals as goal
 
-pub returns-then-left-eq0 : goal.returns-then-left-eq0
+pub returns-in_err-reached : goal.returns-in_err-reached
 unfolding arrived
-returns-then-left-eq0 c = sym (reach-short _ _ _ _ _ _ (sym c.resolve-found.ensures ∙ ap arrived c.in-At.is) c.if-left-eq0.true)
+returns-in_err-reached c =
+    let r : c.from_residual.result ≡ Err c.in_err-reached.field-0.0 = grind arith in
+    rw r (reach-halted _ _ _ _ _ c.in_err-reached.ensures)
 
-pub returns-else-left-eq0 : goal.returns-else-left-eq0
+pub returns-in_err-left : goal.returns-in_err-left
 unfolding arrived
-returns-else-left-eq0 c = sym (reach-done _ _ _ _ _ _ (sym c.resolve-found.ensures ∙ ap arrived c.in-At.is) c.if-left-eq0.false)
+returns-in_err-left c =
+    let z : c.in_ok-reached.reached.left ≡ 0 = grind arith in
+    let r : c.from_residual-in_err-left.result ≡ Err Spent = grind arith in
+    rw r (sym (reach-short _ _ _ _ _ _ (sym c.in_ok-reached.ensures) z))
 
-pub returns-in-Spent : goal.returns-in-Spent
+pub returns : goal.returns
 unfolding arrived
-returns-in-Spent c = sym (reach-spent _ _ _ _ (sym c.resolve-found.ensures ∙ ap arrived c.in-Spent.is))
-
-pub returns-in-Broken : goal.returns-in-Broken
-unfolding arrived
-returns-in-Broken c = sym (reach_broken _ _ _ _ (sym c.resolve-found.ensures ∙ ap arrived c.in-Broken.is))
+returns c =
+    let z : c.in_ok-reached.reached.left ≢ 0 = grind arith in
+    let r : c.in_ok-left.left ≡ c.in_ok-reached.reached.left - 1 = grind arith in
+    rw r (sym (reach-done _ _ _ _ _ _ (sym c.in_ok-reached.ensures) z))

@@ -1,20 +1,18 @@
-use Rattle.std.proofs.Common.{sym, ap, ◌∙◌}
-use Rattle.unifier.specs.Answers.{told}
 use Rattle.unifier_trial.specs.Numbers.{told_as}
 use Rattle.unifier_trial.proofs.trial_solved.Goals as goal
 
-pub returns-in-Yes : goal.returns-in-Yes
+pub returns-then-known : goal.returns-then-known
 unfolding told_as
-returns-in-Yes c = sym (sym c.solved-told.ensures ∙ ap told c.in-Yes.is)
+returns-then-known c = rw c.if-known.true at c.in-Ok.ensures
 
-pub returns-in-No : goal.returns-in-No
+pub returns-else-known : goal.returns-else-known
 unfolding told_as
-returns-in-No c = sym (sym c.solved-told.ensures ∙ ap told c.in-No.is)
+returns-else-known c = rw c.if-known.false at c.in-Ok.ensures
 
-pub returns-in-Spent : goal.returns-in-Spent
+pub returns-in-Err-Spent : goal.returns-in-Err-Spent
 unfolding told_as
-returns-in-Spent c = sym (sym c.solved-told.ensures ∙ ap told c.in-Spent.is)
+returns-in-Err-Spent c = rw c.in-Err-Spent.field-0-is at c.in-Err-Spent.ensures
 
-pub returns-in-Broken : goal.returns-in-Broken
+pub returns-in-Err-Broken : goal.returns-in-Err-Broken
 unfolding told_as
-returns-in-Broken c = sym (sym c.solved-told.ensures ∙ ap told c.in-Broken.is)
+returns-in-Err-Broken c = rw c.in-Err-Broken.field-0-is at c.in-Err-Broken.ensures

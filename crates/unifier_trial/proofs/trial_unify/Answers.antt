@@ -1,24 +1,22 @@
-use Rattle.std.proofs.Common.{sym, ap, ◌∙◌}
-use Rattle.unifier.specs.Answers.{settled}
 use Rattle.unifier_trial.specs.Numbers.{unified_as}
 use Rattle.unifier_trial.proofs.trial_unify.Goals as goal
 
 pub returns-in-Done : goal.returns-in-Done
 unfolding unified_as
-returns-in-Done c = sym (sym c.unify-ended.ensures ∙ ap (λ r. settled r c.unify-ended.new.words) c.in-Done.is)
+returns-in-Done c = rw c.in-Done.is at c.in-Ok.ensures
 
 pub returns-in-Mismatch : goal.returns-in-Mismatch
 unfolding unified_as
-returns-in-Mismatch c = sym (sym c.unify-ended.ensures ∙ ap (λ r. settled r c.unify-ended.new.words) c.in-Mismatch.is)
+returns-in-Mismatch c = rw c.in-Mismatch.is at c.in-Ok.ensures
 
 pub returns-in-Circular : goal.returns-in-Circular
 unfolding unified_as
-returns-in-Circular c = sym (sym c.unify-ended.ensures ∙ ap (λ r. settled r c.unify-ended.new.words) c.in-Circular.is)
+returns-in-Circular c = rw c.in-Circular.is at c.in-Ok.ensures
 
-pub returns-in-Spent : goal.returns-in-Spent
+pub returns-in-Err-Spent : goal.returns-in-Err-Spent
 unfolding unified_as
-returns-in-Spent c = sym (sym c.unify-ended.ensures ∙ ap (λ r. settled r c.unify-ended.new.words) c.in-Spent.is)
+returns-in-Err-Spent c = rw c.in-Err-Spent.field-0-is at c.in-Err-Spent.ensures
 
-pub returns-in-Broken : goal.returns-in-Broken
+pub returns-in-Err-Broken : goal.returns-in-Err-Broken
 unfolding unified_as
-returns-in-Broken c = sym (sym c.unify-ended.ensures ∙ ap (λ r. settled r c.unify-ended.new.words) c.in-Broken.is)
+returns-in-Err-Broken c = rw c.in-Err-Broken.field-0-is at c.in-Err-Broken.ensures

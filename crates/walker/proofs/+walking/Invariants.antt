@@ -1,5 +1,5 @@
-use Rattle.std.proofs.Common.{◌≡◌, length, ◌+◌, ◌*◌}
-use Rattle.machine.specs.Machine.{mach}
+use Rattle.std.proofs.Common.{◌≡◌, ◌+◌, ◌*◌, ◌-◌}
+use Rattle.machine.specs.Seen.{machine, Kept}
 use Rattle.machine.specs.Types.{times_of}
 use Rattle.walker.specs.Walk.{children_by, expr_of, pred_of}
 use Rattle.walker.proofs.+walking.Given as goal
@@ -46,14 +46,8 @@ decreases-quant l = l.left * 7 + 4
 abbrev pub decreases-two : goal.decreases-two
 decreases-two l = l.left * 7 + 2
 
-abbrev pub invariant-each-loop-i : goal.invariant-each-loop-i
-invariant-each-loop-i l = (children_by (expr_of l.left l.s l.env) l.plan l.i l.y (mach l.size l.v l.work l.output) ≡ children_by (expr_of l.left l.s l.env) l.plan l.initial.i l.initial.y (mach l.size l.initial.v l.initial.work l.initial.output)) × (length l.work ≡ length l.initial.work) × (length l.output ≡ length l.initial.output)
+abbrev pub invariant-each-loop : goal.invariant-each-loop
+invariant-each-loop l = record { walked : children_by (expr_of l.left l.initial.walk.formula.now l.initial.walk.environment.now) l.plan (l.n - l.counter) l.y (machine l.walk) ≡ children_by (expr_of l.left l.initial.walk.formula.now l.initial.walk.environment.now) l.plan l.n l.initial.y (machine l.initial.walk); kept : Kept l.initial.walk l.walk }
 
-abbrev pub decreases-each-loop-i : goal.decreases-each-loop-i
-decreases-each-loop-i l = l.i
-
-abbrev pub invariant-preds-loop-i : goal.invariant-preds-loop-i
-invariant-preds-loop-i l = (times_of (pred_of l.left l.s l.env) l.i (mach l.size l.v l.work l.output) ≡ times_of (pred_of l.left l.s l.env) l.initial.i (mach l.size l.initial.v l.initial.work l.initial.output)) × (length l.work ≡ length l.initial.work) × (length l.output ≡ length l.initial.output)
-
-abbrev pub decreases-preds-loop-i : goal.decreases-preds-loop-i
-decreases-preds-loop-i l = l.i
+abbrev pub invariant-preds-loop : goal.invariant-preds-loop
+invariant-preds-loop l = record { walked : times_of (pred_of l.left l.initial.walk.formula.now l.initial.walk.environment.now) (l.n - l.counter) (machine l.walk) ≡ times_of (pred_of l.left l.initial.walk.formula.now l.initial.walk.environment.now) l.n (machine l.initial.walk); kept : Kept l.initial.walk l.walk }

@@ -1,12 +1,10 @@
-use Rattle.std.proofs.Common.{◌-◌, ◌≡◌, length}
-use Rattle.machine.specs.Machine.{mach}
+use Rattle.std.proofs.Common.{◌≡◌, ◌-◌}
+use Rattle.types.specs.Limits.{max_depth}
+use Rattle.machine.specs.Seen.{machine, Kept}
 use Rattle.machine.specs.Types.{times_of}
 use Rattle.walker.specs.Walk.{expr_of}
 use Rattle.walker.specs.Root.{product_by}
 use Rattle.walker.proofs.products.Given as goal
 
-abbrev pub invariant-loop-i : goal.invariant-loop-i
-invariant-loop-i l = (times_of (product_by (expr_of 64 l.s l.env)) (l.i - 1) (mach l.size l.v l.work l.output) ≡ times_of (product_by (expr_of 64 l.s l.env)) (l.initial.i - 1) (mach l.size l.initial.v l.initial.work l.initial.output)) × (length l.work ≡ length l.initial.work) × (length l.output ≡ length l.initial.output)
-
-abbrev pub decreases-loop-i : goal.decreases-loop-i
-decreases-loop-i l = l.i
+abbrev pub invariant-loop : goal.invariant-loop
+invariant-loop l = record { walked : times_of (product_by (expr_of max_depth l.initial.walk.formula.now l.initial.walk.environment.now)) (l.n - l.counter) (machine l.walk) ≡ times_of (product_by (expr_of max_depth l.initial.walk.formula.now l.initial.walk.environment.now)) (l.n - l.initial.counter) (machine l.initial.walk); kept : Kept l.initial.walk l.walk }

@@ -1,10 +1,7 @@
-use Rattle.std.proofs.Common.{◌-◌, ◌≡◌, length}
-use Rattle.machine.specs.Machine.{mach}
+use Rattle.std.proofs.Common.{◌≡◌, ◌-◌}
+use Rattle.machine.specs.Seen.{machine, Kept}
 use Rattle.walker.specs.Root.{shares_from}
 use Rattle.walker.proofs.shares.Given as goal
 
 abbrev pub invariant-loop-i : goal.invariant-loop-i
-invariant-loop-i l = (shares_from l.first l.until l.place.0 (l.until - l.i) l.i (mach l.size l.v l.work l.output) ≡ shares_from l.first l.until l.place.0 (l.until - l.initial.i) l.initial.i (mach l.size l.initial.v l.initial.work l.initial.output)) × (length l.work ≡ length l.initial.work) × (length l.output ≡ length l.initial.output)
-
-abbrev pub decreases-loop-i : goal.decreases-loop-i
-decreases-loop-i l = l.until - l.i
+invariant-loop-i l = record { walked : shares_from l.first l.until l.place.0 (l.until - l.i) l.i (machine l.walk) ≡ shares_from l.first l.until l.place.0 l.until 0 (machine l.initial.walk); kept : Kept l.initial.walk l.walk }

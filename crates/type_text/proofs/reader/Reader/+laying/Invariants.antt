@@ -4,18 +4,14 @@ use Rattle.type_text.specs.Lay.{Going}
 use Rattle.type_text.proofs.reader.Reader.+laying.Given as goal
 
 abbrev pub decreases-lay_operand : goal.decreases-lay_operand
-decreases-lay_operand l = l.c.left * 4
-
-abbrev pub decreases-lay_operand_at : goal.decreases-lay_operand_at
-decreases-lay_operand_at l = l.c.left * 4 + 1
+decreases-lay_operand l = l.c.left * 2
 
 abbrev pub decreases-lay_product : goal.decreases-lay_product
-decreases-lay_product l = l.c.left * 4 + 2
+decreases-lay_product l = l.c.left * 2 + 1
 
-abbrev pub decreases-lay_product_at : goal.decreases-lay_product_at
-decreases-lay_product_at l = l.c.left * 4 + 3
+abbrev pub invariant-lay_product-loop-q : goal.invariant-lay_product-loop-q
+invariant-lay_product-loop-q l =
+    Going l.fn.c.left (names l.self.table.now) l.self.text.now l.fn.c.at l.fn.page l.page l.end l.width × (length l.page ≡ length l.initial.page)
 
-abbrev pub invariant-lay_product-loop-turn : goal.invariant-lay_product-loop-turn
-invariant-lay_product-loop-turn l =
-    Going l.fn.c.left (names l.self.table.now) l.self.text.now l.fn.c.at l.fn.page l.page l.end l.width (length l.self.text.now - l._turn)
-    × (length l.page ≡ length l.initial.page)
+abbrev pub decreases-lay_product-loop-q : goal.decreases-lay_product-loop-q
+decreases-lay_product-loop-q l = length l.self.text.now - l.end

@@ -1,10 +1,10 @@
 -- `scan_operand` and `scan_product` follow the parse. The depth left falls from a product to the operands inside its brackets; × is a loop.
-use Rattle.std.proofs.Common.{arith, ap, ◌∙◌, Some}
+use Rattle.std.proofs.Common.{ap, ◌∙◌, Some}
 use Rattle.std.proofs.lemmas.Result.{err_from_is_err_and}
 use borrow.Enum.Refused.{opened}
 use Rattle.type_text.proofs.Laws.{operand_else, times_else}
 use Rattle.type_grammar.specs.Parse.{operand_by}
-use Rattle.type_text.specs.Scan.{scan_on, operand-deep, operand-leaf, operand-none, power-stop, power-open, power-done, open-stop, open-open, open-done, product-stop, product-go, times_none, times-other, times-stop, times-go}
+use Rattle.type_text.specs.Scan.{scan_on, operand-deep, operand-leaf, operand-none, power-stop, power-open, power-done, open-stop, open-open, open-done, product-stop, product-go, times-other, times-stop, times-go, times-within}
 use Rattle.type_text.proofs.reader.Reader.+scanning.Goals as goal
 
 pub scan_operand-returns-then-c-eq0 : goal.scan_operand-returns-then-c-eq0
@@ -41,21 +41,21 @@ scan_operand-returns-in_default-2 t c = operand-none _ _ _ _ c.if-c-eq0.false _ 
 pub scan_product-returns-in_err-e : goal.scan_product-returns-in_err-e
 scan_product-returns-in_err-e t c = let p = err_from_is_err_and c.from_residual.result c.from_residual.ensures.1 in rw (p.1, p.2) (product-stop _ _ _ _ _ _ c.scan_operand.ensures _ c.in_err-e.was)
 
-pub scan_product-loop-turn-init : goal.scan_product-loop-turn-init
-scan_product-loop-turn-init t c = product-go _ _ _ _ _ _ c.scan_operand.ensures _ c.in_ok-e.was
+pub scan_product-loop-q-init : goal.scan_product-loop-q-init
+scan_product-loop-q-init t c = product-go _ _ _ _ _ _ c.scan_operand.ensures _ c.in_ok-e.was
 
 pub scan_product-returns-in_err-f : goal.scan_product-returns-in_err-f
-scan_product-returns-in_err-f t c = let p = err_from_is_err_and c.from_residual-in_err-f.result c.from_residual-in_err-f.ensures.1 in rw (p.1, p.2) (times-stop _ _ _ _ _ c.loop-turn._turn _ _ _ c.loop-turn.invariant (omega (arith, c.loop-turn-test.true)) _ c.token.ensures _ (c.in-Some-Times.is ∙ ap Some c.in-Some-Times.field-0-is) _ c.spend.ensures _ c.scan_operand-in-loop-turn.ensures _ c.in_err-f.was)
+scan_product-returns-in_err-f t c = let p = err_from_is_err_and c.from_residual-in_err-f.result c.from_residual-in_err-f.ensures.1 in rw (p.1, p.2) (times-stop _ _ _ _ _ _ _ _ c.token.ensures _ (c.in-Some-Times.is ∙ ap Some c.in-Some-Times.field-0-is) c.loop-q.invariant _ c.spend.ensures _ c.scan_operand-in-Some-Times.ensures _ c.in_err-f.was)
 
-pub scan_product-loop-turn-preserved : goal.scan_product-loop-turn-preserved
-scan_product-loop-turn-preserved t c = times-go _ _ _ _ _ c.loop-turn._turn _ _ _ c.loop-turn.invariant (omega (arith, c.loop-turn-test.true)) _ c.token.ensures _ (c.in-Some-Times.is ∙ ap Some c.in-Some-Times.field-0-is) _ c.spend.ensures _ c.scan_operand-in-loop-turn.ensures _ _ _ c.in_ok-f.was c.max.ensures c.deeper-d.ensures
+pub scan_product-loop-q-preserved : goal.scan_product-loop-q-preserved
+scan_product-loop-q-preserved t c = times-go _ _ _ _ _ _ _ _ c.token.ensures _ (c.in-Some-Times.is ∙ ap Some c.in-Some-Times.field-0-is) c.loop-q.invariant _ c.spend.ensures _ c.scan_operand-in-Some-Times.ensures _ c.in_ok-f.was _ _ c.max.ensures c.deeper-d.ensures
 
-pub scan_product-returns-after-loop-turn : goal.scan_product-returns-after-loop-turn
-scan_product-returns-after-loop-turn t c = times_none _ _ _ _ _ c.loop-turn._turn _ _ _ c.loop-turn.invariant (omega (arith, c.loop-turn-test.false))
+pub scan_product-loop-q-smaller : goal.scan_product-loop-q-smaller
+scan_product-loop-q-smaller t c = times-within _ _ _ _ _ _ _ _ c.token.ensures _ (c.in-Some-Times.is ∙ ap Some c.in-Some-Times.field-0-is) c.loop-q.invariant _ c.spend.ensures _ c.scan_operand-in-Some-Times.ensures _ c.in_ok-f.was
 
 pub scan_product-returns-in_default : goal.scan_product-returns-in_default
-scan_product-returns-in_default t c = times-other _ _ _ _ _ c.loop-turn._turn _ _ _ c.loop-turn.invariant (omega (arith, c.loop-turn-test.true)) _ c.token.ensures (times_else _ _ _ _ _ (opened c.in_default.in_default-own.keys2) (cc))
+scan_product-returns-in_default t c = times-other _ _ _ _ _ _ _ _ c.token.ensures c.loop-q.invariant (times_else _ _ _ _ _ (opened c.in_default.in_default-own.keys2) (cc))
 
 pub scan_product-returns-in_default-2 : goal.scan_product-returns-in_default-2
 unfolding scan_on
-scan_product-returns-in_default-2 t c = times-other _ _ _ _ _ c.loop-turn._turn _ _ _ c.loop-turn.invariant (omega (arith, c.loop-turn-test.true)) _ c.token.ensures (λ next. ap (scan_on next _ _ _) c.in_default.is)
+scan_product-returns-in_default-2 t c = times-other _ _ _ _ _ _ _ _ c.token.ensures c.loop-q.invariant (λ next. ap (scan_on next _ _ _) c.in_default.is)

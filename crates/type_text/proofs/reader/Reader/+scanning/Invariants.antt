@@ -1,7 +1,7 @@
-use Rattle.std.proofs.Common.{◌*◌, ◌+◌, ◌-◌, ◌≡◌, length}
+use Rattle.std.proofs.Common.{◌*◌, ◌+◌, ◌-◌, length}
 use Rattle.name_table.specs.Table.{names}
 use Rattle.type_grammar.specs.Parse.{product_of}
-use Rattle.type_text.specs.Scan.{scanned_of, scan_times_of}
+use Rattle.type_text.specs.Scan.{scanned_of, Scanning}
 use Rattle.type_text.proofs.reader.Reader.+scanning.Given as goal
 
 abbrev pub decreases-scan_operand : goal.decreases-scan_operand
@@ -10,7 +10,9 @@ decreases-scan_operand l = l.c.left * 2
 abbrev pub decreases-scan_product : goal.decreases-scan_product
 decreases-scan_product l = l.c.left * 2 + 1
 
-abbrev pub invariant-scan_product-loop-turn : goal.invariant-scan_product-loop-turn
-invariant-scan_product-loop-turn l =
-    scanned_of l.fn.room (product_of l.fn.c.left (names l.self.table.now) l.self.text.now l.fn.c.at)
-    ≡ scan_times_of l.fn.c.left (names l.self.table.now) l.self.text.now (length l.self.text.now - l._turn) l.e l.d l.r
+abbrev pub invariant-scan_product-loop-q : goal.invariant-scan_product-loop-q
+invariant-scan_product-loop-q l =
+    Scanning l.fn.c.left (names l.self.table.now) l.self.text.now (scanned_of l.fn.room (product_of l.fn.c.left (names l.self.table.now) l.self.text.now l.fn.c.at)) l.e l.d l.r
+
+abbrev pub decreases-scan_product-loop-q : goal.decreases-scan_product-loop-q
+decreases-scan_product-loop-q l = length l.self.text.now - l.e

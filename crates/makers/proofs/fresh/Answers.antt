@@ -1,6 +1,0 @@
-use Rattle.unification.specs.Make.{build}
-use Rattle.makers.proofs.fresh.Goals as goal
-
-pub returns : goal.returns
-unfolding build
-returns c = c.push.ensures
