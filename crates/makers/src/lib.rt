@@ -1,5 +1,6 @@
 // The makers of the arena's nodes, on words that the caller lends: three a node.
 // `count` is the number of nodes. Every function takes any words, counts and references.
+// The words and the count stay two parameters: each caller has them apart, and would make a struct for the one call.
 // What each makes is a definition of crate `unification`: `specs/Answers` says how an answer is read as that definition's outcome.
 #![tactic(auto)]
 

@@ -12,12 +12,6 @@ node_is (N.Leaf a) = S.leaf (atom_is a)
 node_is (N.Power x) = S.power x.0
 node_is (N.Product x y) = S.pair x.0 y.0
 
-pub node-root : (x : Node) → Root (node_is x)
-node-root N.Unknown = tt
-node-root (N.Leaf a) = tt
-node-root (N.Power x) = tt
-node-root (N.Product x y) = tt
-
 -- that a node is no binding is one fact: it can stand in a type
 pub root_prop : (n : S.Node) → IsProp (Root n)
 root_prop S.free = λ x y. refl
