@@ -24,20 +24,8 @@ use Rattle.finisher.specs.Finisher.{settle_of, each_of, name_of, slot_of, test_n
 use Rattle.simulation.specs.Relation.{Wrote, Stands, Listed, Filled}
 use Rattle.machine.specs.Still.{test_yes, test_no}
 use Rattle.simulation.specs.Output.{assoc}
-use Rattle.conclusion.specs.Tests.{ended, Halted, settle_still, each_still, Stood, stood_as, Tested, Asks, each_tests}
-
--- ---- a stopped machine
-pub name_still : (j : ℕ) (m : Mach) → Halted m → name_of j m ≡ m
-unfolding name_of then
-name_still j m h = settle_still (word_of (cell 2048 3 j 1) m) 3 (word_of (cell 2048 3 j 2) m) (word_of (cell 2048 3 j 0) m) m h
-
-pub slot_still : (j : ℕ) (m : Mach) → Halted m → slot_of j m ≡ m
-unfolding slot_of then
-slot_still j m h = settle_still (word_of (cell 0 2 j 0) m) 2 (word_of (cell 0 2 j 1) m) 0xFFFF m h
-
-slots_still : (m : Mach) → Halted m → test_slots_of m ≡ m
-unfolding test_slots_of
-slots_still m h = each_still slot_of slot_still m.st.slots 0 m h
+use Rattle.finisher.specs.Still.{still_name, still_slot, still_named, still_tested}
+use Rattle.conclusion.specs.Tests.{ended, Stood, stood_as, Tested, Asks, each_tests}
 
 -- ---- whether anything is listed
 pub clean_yes : (v : State) → v.over ≡ false → v.bytes ≡ 0 → clean_of v ≡ true
@@ -85,16 +73,12 @@ finish-stopped : (m : Mach) (n : ℕ) → (test_names_of m).st.stop ≡ n → (n
 finish-stopped m n e h = by (clean_of (test_names_of m).st) refl
   where
     by : (c : Bool) → clean_of (test_names_of m).st ≡ c → (finish_of m).st.stop ≡ n
-    by true c = ap (λ (x : Mach). x.st.stop) (finish_yes m (test_names_of m) refl c ∙ slots_still (test_names_of m) (λ z. h (sym e ∙ z))) ∙ e
+    by true c = ap (λ (x : Mach). x.st.stop) (finish_yes m (test_names_of m) refl c ∙ still_tested (test_names_of m) (λ z. h (sym e ∙ z))) ∙ e
     by false c = ap (λ (x : Mach). x.st.stop) (finish_no m (test_names_of m) refl c) ∙ e
-
-names_still : (m : Mach) → Halted m → test_names_of m ≡ m
-unfolding test_names_of
-names_still m h = each_still name_of name_still m.st.met 0 m h
 
 -- a walk that stopped stays so
 pub finish_stops : (m : Mach) (n : ℕ) → m.st.stop ≡ n → (n ≡ 0 → ⊥) → (finish_of m).st.stop ≡ n
-finish_stops m n e h = finish-stopped m n (ap (λ (x : Mach). x.st.stop) (names_still m (λ z. h (sym e ∙ z))) ∙ e) h
+finish_stops m n e h = finish-stopped m n (ap (λ (x : Mach). x.st.stop) (still_named m (λ z. h (sym e ∙ z))) ∙ e) h
 
 -- ---- what the book's rows ask
 module _ (Γ : Env) (env : List ℕ) (cap room : ℕ) (m : Mach) (g : m.st.stop ≡ 0) where
@@ -113,7 +97,7 @@ module _ (Γ : Env) (env : List ℕ) (cap room : ℕ) (m : Mach) (g : m.st.stop 
   named [] = tt
   named (x ∷ row) = named_more (Γ x.name) x (names Γ row) (named row)
 
-  name-asks : (j : ℕ) (qs : List Question) → Named qs → Listed Γ env cap room m.book j qs → Asks room m g name_of name_still j qs
+  name-asks : (j : ℕ) (qs : List Question) → Named qs → Listed Γ env cap room m.book j qs → Asks room m g name_of still_name j qs
   unfolding name_of then
   name-asks j [] n l = tt
   name-asks j (q ∷ qs) n l =
@@ -123,7 +107,7 @@ module _ (Γ : Env) (env : List ℕ) (cap room : ℕ) (m : Mach) (g : m.st.stop 
         name-asks (j + 1) qs n.2 (subst (λ (i : ℕ). Listed Γ env cap room m.book i qs) j1 l.3),
       )
 
-  slot_asks : (j : ℕ) (ss : List (ℕ × ℕ)) → Filled Γ env cap room m.book j ss → Asks room m g slot_of slot_still j (F.slots ss)
+  slot_asks : (j : ℕ) (ss : List (ℕ × ℕ)) → Filled Γ env cap room m.book j ss → Asks room m g slot_of still_slot j (F.slots ss)
   unfolding slot_of then F.slots
   slot_asks j [] l = tt
   slot_asks j (s ∷ ss) l =
@@ -150,13 +134,13 @@ module _ (Γ : Env) (env : List ℕ) (cap room : ℕ) (m : Mach) (b : Bench) (ro
   names_tested : Tested room m (spell_problems (walk_problems b.problems)) (test_names_of m) (ask m.arena m.st.nodes (names Γ row) m.st.budget)
   unfolding test_names_of
   names_tested = subst (λ (n : ℕ). Tested room m (spell_problems (walk_problems b.problems)) (each_of name_of n 0 m) (ask m.arena m.st.nodes (names Γ row) m.st.budget)) (sym met)
-      (each_tests room m s.going name_of name_still (names Γ row) 0 m.st.budget m.st.bytes m.st.over m.out (spell_problems (walk_problems b.problems))
+      (each_tests room m s.going name_of still_name (names Γ row) 0 m.st.budget m.st.bytes m.st.over m.out (spell_problems (walk_problems b.problems))
       (name-asks Γ env cap room m s.going 0 (names Γ row) (named Γ env cap room m s.going row) rows) s.wrote)
 
   slots_tested : (r n : ℕ) (o : Bool) (out : List ℕ) → Wrote room [] n o out → Tested room m [] (test_slots_of (ended r n o out m)) (ask m.arena m.st.nodes (F.slots ss) r)
   unfolding test_slots_of
   slots_tested r n o out w = subst (λ (i : ℕ). Tested room m [] (each_of slot_of i 0 (ended r n o out m)) (ask m.arena m.st.nodes (F.slots ss) r)) (slots_length ss ∙ sym u)
-      (each_tests room m s.going slot_of slot_still (F.slots ss) 0 r n o out [] (slot_asks Γ env cap room m s.going 0 ss fl) w)
+      (each_tests room m s.going slot_of still_slot (F.slots ss) 0 r n o out [] (slot_asks Γ env cap room m s.going 0 ss fl) w)
 
   -- a machine that stands after bytes
   stood-clean : (r : ℕ) (m' : Mach) → Stood room m [] r m' → clean_of m'.st ≡ true

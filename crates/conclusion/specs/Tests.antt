@@ -17,7 +17,8 @@ use Rattle.forms.specs.Forms.{then}
 use Rattle.machine.specs.Machine.{Mach, with_st, left_of, stopped_of, list_of}
 use Rattle.finisher.specs.Finisher.{told_by, settle_of, each_of}
 use Rattle.simulation.specs.Relation.{Wrote}
-use Rattle.machine.specs.Still.{test_yes, test_no}
+use Rattle.machine.specs.Still.{Halted, test_yes, test_no}
+use Rattle.finisher.specs.Still.{still_each}
 use Rattle.simulation.specs.Steps.{nil_right}
 use Rattle.simulation.specs.Output.{assoc, Spoke, list_spoke}
 
@@ -33,18 +34,6 @@ ended r n o out m = record {
 -- stopped with a number
 abbrev pub halted : ℕ → Mach → Mach
 halted k m = with_st (record { at = m.st.at; from = m.st.from; last = m.st.last; nodes = m.st.nodes; budget = m.st.budget; slots = m.st.slots; met = m.st.met; bound = m.st.bound; bytes = m.st.bytes; over = m.st.over; stop = k }) m
-
-abbrev pub Halted : Mach → Type 0
-Halted m = m.st.stop ≡ 0 → ⊥
-
-pub settle_still : (t q p x : ℕ) (m : Mach) → Halted m → settle_of t q p x m ≡ m
-unfolding settle_of
-settle_still t q p x m h = test_no (eqb m.st.stop 0) _ _ (ne_eqb m.st.stop 0 h)
-
-pub each_still : (f : ℕ → Mach → Mach) → ((j : ℕ) (m : Mach) → Halted m → f j m ≡ m) → (n j : ℕ) (m : Mach) → Halted m → each_of f n j m ≡ m
-unfolding each_of
-each_still f s zero j m h = refl
-each_still f s (suc n) j m h = ap (each_of f n (j + 1)) (s j m h) ∙ each_still f s n (j + 1) m h
 
 -- ---- one reference: what each outcome of its test does
 module _ (t : ℕ) (q : Problem) (m : Mach) (g : m.st.stop ≡ 0) where
@@ -152,13 +141,13 @@ module _ (room : ℕ) (m : Mach) (g : m.st.stop ≡ 0) (f : ℕ → Mach → Mac
         let y = C.test-spent m.arena m.st.nodes q.ref b e in
         let z : f j (ended b n o out m) ≡ halted 7 (ended b n o out m) = here ∙ settle_spent q.ref q.problem (ended b n o out m) g u e in
         let k : ask m.arena m.st.nodes (q ∷ qs) b ≡ spent tt = cut_short y in
-        let i = ap (each_of f (length qs) (j + 1)) z ∙ each_still f still (length qs) (j + 1) (halted 7 (ended b n o out m)) (λ c. (let v : ◌≡◌ {A = ℕ} 7 0 = c in omega arith)) in
+        let i = ap (each_of f (length qs) (j + 1)) z ∙ still_each f still (length qs) (j + 1) (halted 7 (ended b n o out m)) (λ c. (let v : ◌≡◌ {A = ℕ} 7 0 = c in omega arith)) in
         subst (λ (a : Out U Findings). Tested room m P (each_of f (length qs) (j + 1) (f j (ended b n o out m))) a) (sym k) (ap (λ (a : Mach). a.st.stop) i)
     by (halt v u) e =
         let y = C.test-halt m.arena m.st.nodes q.ref b v e in
         let z : f j (ended b n o out m) ≡ halted 2 (ended b n o out m) = here ∙ settle_halt q.ref q.problem (ended b n o out m) g v u e in
         let k : ask m.arena m.st.nodes (q ∷ qs) b ≡ halt v tt = cut_off v y in
-        let i = ap (each_of f (length qs) (j + 1)) z ∙ each_still f still (length qs) (j + 1) (halted 2 (ended b n o out m)) (λ c. (let v : ◌≡◌ {A = ℕ} 2 0 = c in omega arith)) in
+        let i = ap (each_of f (length qs) (j + 1)) z ∙ still_each f still (length qs) (j + 1) (halted 2 (ended b n o out m)) (λ c. (let v : ◌≡◌ {A = ℕ} 2 0 = c in omega arith)) in
         subst (λ (a : Out U Findings). Tested room m P (each_of f (length qs) (j + 1) (f j (ended b n o out m))) a) (sym k) (ap (λ (a : Mach). a.st.stop) i)
 
   pub each_tests : (qs : List Question) (j b n : ℕ) (o : Bool) (out P : List ℕ) → Asks j qs → Wrote room P n o out

@@ -135,7 +135,7 @@ fn spell(walk: &mut Machine, t: NodeRef) -> Result<(), Stop>
     }
     let mut left = u64::MAX;
     let (size, count, at) = (walk.size, walk.nodes, walk.bytes);
-    // the check lends one field of a borrowed struct at a time
+    // the arena is taken while the output is lent: of a struct behind a reference one field is lent at a time
     let work = std::mem::take(&mut walk.work);
     let laid = lay(work, size, count, walk.output, at, t, &mut left);
     walk.work = work;

@@ -33,9 +33,6 @@ on_st f m = with_st (f m.st) m
 abbrev pub with_arena : List ℕ → Mach → Mach
 with_arena ws m = record { st = m.st; arena = ws; book = m.book; out = m.out }
 
-unfoldable pub smaller : ℕ → ℕ → ℕ
-smaller a b = test (ltb a b) (λ _. a) (λ _. b)
-
 -- the state that a walk begins with
 unfoldable pub start_of : ℕ → State
 start_of budget =
