@@ -2,13 +2,12 @@
 // compared byte by byte. Prints for each list its lines and how many were answered as they say.
 #![tactic(auto)]
 
-ghost use Rattle.std.specs.Prelude.{◌≤◌};
+ghost use Rattle.std.specs.Prelude.{IfOk, ◌≤◌, length};
 
 use std::fs::{self, File};
-use std::io::{self, BufRead, BufReader};
-use std::str::Split;
+use std::io::{self, Read, Seek, SeekFrom};
 
-// ---- one line
+// ---- a line's fields
 
 const PAGE: usize = 512;
 
@@ -31,35 +30,69 @@ impl Bytes {
     }
 }
 
-// A line's fields, one after another.
+// The value of an upper-case hexadecimal digit.
+fn digit(byte: u8) -> Option<u8> {
+    match byte {
+        b'0'..=b'9' => Some(byte - b'0'),
+        b'A'..=b'F' => Some(byte - b'A' + 10),
+        _ => None,
+    }
+}
+
+// What is left of a part of a list, from a line's next field on. A line with too few fields takes those of the next lines.
 #[derive(Drop)]
 struct Fields<'a> {
-    rest: Split<'a, char>,
+    rest: &'a [u8],
 }
 
 impl Fields<'_> {
-    // Hexadecimal digits, or - for no bytes.
-    fn bytes(&mut self) -> Option<Bytes> {
-        let field = self.rest.next()?;
-        let digits = if field == "-" { "" } else { field };
-        let length = digits.len() / 2;
-        let mut page = [0u8; PAGE];
-        hex::decode_to_slice(digits, page.get_mut(..length)?).ok()?;
-        Some(Bytes { page, length })
+    fn skip(&mut self) {
+        self.rest = match self.rest.iter().position(|byte| *byte == b' ') {
+            Some(end) => &self.rest[end + 1..],
+            None => &[],
+        };
     }
 
-    fn number(&mut self) -> Option<u32> {
-        self.rest.next()?.parse().ok()
+    // Hexadecimal digits by twos, until the page is full or a first one is no digit. A second one that is no digit counts as 0.
+    fn bytes(&mut self) -> Bytes {
+        let mut page = [0u8; PAGE];
+        let mut length = 0;
+        let mut digits = self.rest.iter();
+        for cell in page.iter_mut() {
+            let Some(high) = digits.next().copied().and_then(digit) else {
+                break;
+            };
+            let low = digits.next().copied().and_then(digit).unwrap_or(0);
+            *cell = high << 4 | low;
+            length += 1;
+        }
+        self.skip();
+        Bytes { page, length }
+    }
+
+    // Decimal digits, of which the last five count.
+    fn number(&mut self) -> u32 {
+        let mut number = 0;
+        for byte in self.rest {
+            match byte {
+                b'0'..=b'9' => number = number % 10000 * 10 + (byte - b'0') as u32,
+                _ => break,
+            }
+        }
+        self.skip();
+        number
     }
 }
 
+// ---- one line
+
 // formula environment names number output
-fn infers(mut fields: Fields<'_>) -> Option<bool> {
-    let formula = fields.bytes()?;
-    let environment = fields.bytes()?;
-    let names = fields.number()?;
-    let due_number = fields.number()?;
-    let due = fields.bytes()?;
+fn infers(mut fields: Fields<'_>) -> bool {
+    let formula = fields.bytes();
+    let environment = fields.bytes();
+    let names = fields.number();
+    let due_number = fields.number();
+    let due = fields.bytes();
     let mut output = [0xAAu8; PAGE];
     let mut place = 0u64;
     let mut length = 0u64;
@@ -74,15 +107,15 @@ fn infers(mut fields: Fields<'_>) -> Option<bool> {
         &mut length,
         &mut steps,
     );
-    Some(number == due_number && due.are(&output, length))
+    number == due_number && due.are(&output, length)
 }
 
 // text table number record: what the bought reader does not take is refused 4 or 5
-fn reads(mut fields: Fields<'_>) -> Option<bool> {
-    let text = fields.bytes()?;
-    let table = fields.bytes()?;
-    let taken = fields.number()? == 0;
-    let due = fields.bytes()?;
+fn reads(mut fields: Fields<'_>) -> bool {
+    let text = fields.bytes();
+    let table = fields.bytes();
+    let taken = fields.number() == 0;
+    let due = fields.bytes();
     let mut page = [0u8; PAGE];
     let mut place = 0u64;
     let mut length = 0u64;
@@ -98,14 +131,14 @@ fn reads(mut fields: Fields<'_>) -> Option<bool> {
     } else {
         matches!(number, 4 | 5)
     };
-    Some(right && due.are(&page, length))
+    right && due.are(&page, length)
 }
 
 // record table text
-fn writes(mut fields: Fields<'_>) -> Option<bool> {
-    let record = fields.bytes()?;
-    let table = fields.bytes()?;
-    let due = fields.bytes()?;
+fn writes(mut fields: Fields<'_>) -> bool {
+    let record = fields.bytes();
+    let table = fields.bytes();
+    let due = fields.bytes();
     let mut page = [0u8; PAGE];
     let mut place = 0u64;
     let mut length = 0u64;
@@ -117,49 +150,91 @@ fn writes(mut fields: Fields<'_>) -> Option<bool> {
         &mut place,
         &mut length,
     );
-    Some(number == 0 && due.are(&page, length))
+    number == 0 && due.are(&page, length)
 }
 
-// Whether a line is answered as it says; none where it is not in the form of its list.
-fn agrees(line: &str) -> Option<bool> {
-    if let Some(rest) = line.strip_prefix("read ") {
-        reads(Fields {
-            rest: rest.split(' '),
-        })
-    } else if let Some(rest) = line.strip_prefix("write ") {
-        writes(Fields {
-            rest: rest.split(' '),
-        })
-    } else {
-        infers(Fields {
-            rest: line.split(' '),
-        })
+// Whether the line that a part of a list begins with is answered as it says.
+fn agrees(list: &[u8]) -> bool {
+    let mut fields = Fields { rest: list };
+    match list.first() {
+        Some(b'r') => {
+            fields.skip();
+            reads(fields)
+        }
+        Some(b'w') => {
+            fields.skip();
+            writes(fields)
+        }
+        _ => infers(fields),
     }
 }
 
 // ---- a list
 
-fn replay(rt: &HostRuntime, name: &str, list: File) -> io::Result<()> {
-    let alloc = rt.alloc();
-    let mut asked = 0u64;
-    let mut answered = 0u64;
-    for line in BufReader::new(alloc, list)?.lines(alloc) {
-        let line = line?;
-        if line.as_str().starts_with('#') {
-            continue;
+// How many lines were asked, and how many were answered as they say.
+#[derive(Drop)]
+struct Tally {
+    asked: u64,
+    answered: u64,
+}
+
+impl Tally {
+    // Asks the whole lines of a part of a list, and answers how many bytes they are.
+    fn replay(&mut self, list: &[u8]) -> usize {
+        let mut rest = list;
+        while let Some(end) = rest.iter().position(|byte| *byte == b'\n') {
+            if !rest.starts_with(b"#") {
+                self.asked = self.asked.wrapping_add(1);
+                if agrees(rest) {
+                    self.answered = self.answered.wrapping_add(1);
+                }
+            }
+            rest = &rest[end + 1..];
         }
-        asked = asked.saturating_add(1);
-        if agrees(line.as_str()) == Some(true) {
-            answered = answered.saturating_add(1);
+        list.len() - rest.len()
+    }
+}
+
+// Reads until the buffer is full or the file ends, and answers how many bytes it put at the buffer's start.
+// A loop: read_exact does not say how many came before the end, and read_to_end takes memory and can fail for want of it.
+fn read_full(file: &mut File, buffer: &mut [u8]) -> io::Result<usize>
+    ensures { IfOk result (λ n. n ≤ length buffer.new) }
+{
+    let mut done = 0;
+    while done < buffer.len() {
+        match file.read(&mut buffer[done..])? {
+            0 => break,
+            n => done += n,
         }
     }
+    Ok(done)
+}
+
+// A list is read in parts, each from after the last whole line of the one before. A part without a whole line ends it.
+fn replay(rt: &HostRuntime, name: &str, list: &mut File) -> io::Result<()> {
+    let mut tally = Tally {
+        asked: 0,
+        answered: 0,
+    };
+    let mut from = 0u64;
+    let mut part = [0u8; 65536];
+    for _ in 0..1000 {
+        list.seek(SeekFrom::Start(from))?;
+        let n = read_full(list, &mut part)?;
+        let used = tally.replay(&part[..n]);
+        if used == 0 {
+            break;
+        }
+        from = from.wrapping_add(used as u64);
+    }
+    let Tally { asked, answered } = tally;
     println!(rt; "{name}: {asked} lines, {answered} answered as they say")
 }
 
 fn main(rt: HostRuntime) -> io::Result<()> {
     for name in ["answers.txt", "texts.txt"] {
         match fs::open(&rt, name) {
-            Ok(list) => replay(&rt, name, list)?,
+            Ok(mut list) => replay(&rt, name, &mut list)?,
             Err(error) => eprintln!(&rt; "{name}: {error}")?,
         }
     }
