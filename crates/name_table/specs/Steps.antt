@@ -2,7 +2,7 @@
 use Prim.Native.Nat.{ℕ, zero, suc, ◌+◌, ◌-◌, ◌≤◌, ◌<◌}
 use Rattle.std.proofs.Common.{◌∙◌, length-drop}
 use native.Mathlib.Omega.{arith}
-use Rattle.std.specs.Prelude.{◌≡◌, Bool, false, ◌&&◌, ◌||◌, not, Option, Some, None, get_or, take, drop, leb, ltb, min, map, cond}
+use Rattle.std.specs.Prelude.{◌≡◌, Bool, false, ◌&&◌, ◌||◌, Option, Some, None, get_or, take, drop, leb, ltb, min, map, cond}
 use Rattle.std.specs.Char.{is_ascii_alphabetic, is_ascii_alphanumeric}
 use Rattle.std.specs.List.{list_all, position_from, slice_get, enumerate_from}
 use Rattle.std.specs.Cmp.Lexicographic.{pointwise}
@@ -16,7 +16,7 @@ use borrow.Author.Tests.{lt-ltb, le-ltb, leb-true, leb-false, eqb-true, eqb-fals
 use denote.Ref.{Bor}
 use Rattle.types.specs.declared.Name.{Name}
 use Rattle.name_table.specs.Words.{between, letter, word_byte, all_word, is_word, same}
-use Rattle.name_table.specs.Table.{boolean, at, shift, seek, find, records_of, records, names_of, names, Named, good_from, good_on, good_name, is_at, good_table}
+use Rattle.name_table.specs.Table.{boolean, at, shift, seek, find, records_of, records, names_of, names, Named, good_from, good_on, good_name, good_table}
 
 -- ---- bytes of words
 
@@ -184,20 +184,6 @@ same_turned (x ∷ a) (y ∷ b) = rw (eqb_turned x y, same_turned a b)
 
 pub boolean_is : (w l : List ℕ) → l ≡ boolean → pointwise eqb w l ≡ same boolean w
 boolean_is w l e = rw e (same_is w boolean ∙ same_turned w boolean)
-
-module _ (ns : List (List ℕ)) (i : ℕ) (w : List ℕ) where
-  pub name_no_word : false ≡ is_word w → false ≡ good_name ns i w
-  unfolding good_name
-  name_no_word e = rw (← e)
-
-  module _ (e : true ≡ is_word w) (l : List ℕ) (b : l ≡ boolean) where
-    pub name_reserved : false ≡ not (pointwise eqb w l) → false ≡ good_name ns i w
-    unfolding good_name
-    name_reserved h = rw (← e, ← boolean_is w l b, ← h)
-
-    pub name_placed : true ≡ not (pointwise eqb w l) → good_name ns i w ≡ is_at i (find ns w)
-    unfolding good_name
-    name_placed h = rw (← e, ← boolean_is w l b, ← h)
 
 -- ---- a good table
 

@@ -31,6 +31,7 @@ impl<'a> Iterator for Records<'a> {
     }
 }
 
+#[tactic(auto, using(crate::specs::Steps::letter_is))]
 pub fn is_letter(c: u8) -> bool
     ensures { result ≡ letter c }
 {
@@ -81,6 +82,7 @@ pub fn count_names(table: &[u8]) -> u32
 }
 
 // The name of number i in a table is a word, is not BOOL, and is no earlier name again.
+#[tactic(auto, using(crate::specs::Steps::boolean_is), unfolding(crate::specs::Table::good_name, crate::specs::Table::is_at))]
 fn name_is_good(table: &[u8], i: u32, word: &[u8]) -> bool
     ensures { result ≡ good_name (names table.now) i word.now }
 {

@@ -38,6 +38,7 @@ fn word_width(text: &[u8]) -> usize
 }
 
 // A word: BOOL, or a name of the table.
+#[tactic(auto, using(name_table::specs::Steps::boolean_is), unfolding(crate::specs::Token::word_token_at, crate::specs::Token::name_token))]
 fn word_token(table: &[u8], word: &[u8], next: usize) -> Option<Token>
     ensures { result ≡ word_token_at (names table.now) next word.now }
 {

@@ -1,29 +1,14 @@
 -- What the remaining arm of a match knows of a token.
-use Rattle.std.proofs.Common.{ℕ, ◌≤◌, refl, arith, [], ◌∷◌, ◌≡◌, ⊎_elim, Option, Some, Ok, Err, ap, ◌∙◌}
+use Rattle.std.proofs.Common.{ℕ, ◌≤◌, refl, arith, [], ◌∷◌, ◌≡◌, ⊎_elim, Option, Some, Ok, ap, ◌∙◌}
 use types.Run.{OneOf}
 use denote.Enum.Declared.{tag_of}
 use Rattle.types.specs.Ty.{Ty}
 use Rattle.types.specs.Record.{TypeAt, got, malformed}
-use Rattle.types.specs.declared.Fault.TheVariants as F
 use Rattle.type_grammar.specs.contracts.Token.{the_type}
 use Rattle.type_grammar.specs.declared.Token.{Token}
 use Rattle.type_grammar.specs.declared.Token.TheVariants.{Leaf, Power, Open, Close, Times}
 use Rattle.type_grammar.specs.Parse.{operand_by, times_on}
-use Rattle.type_text.specs.Scan.{Scanned, closed_at, scan_on}
-
-not_close : OneOf (0 ∷ 1 ∷ 2 ∷ 4 ∷ []) 3 → ⊥
-not_close = ⊎_elim (λ h. omega arith) (⊎_elim (λ h. omega arith) (⊎_elim (λ h. omega arith) (λ h. omega arith)))
-
-closed_by : (e : ℕ) (k : Token) → OneOf (0 ∷ 1 ∷ 2 ∷ 4 ∷ []) (tag_of the_type k) → closed_at e (Some k) ≡ Err (F.Malformed e)
-unfolding closed_at
-closed_by e (Leaf a q) h = refl
-closed_by e (Power q) h = refl
-closed_by e (Open q) h = refl
-closed_by e (Close q) h = absurd (not_close h)
-closed_by e (Times q) h = refl
-
-pub closed-other : (e : ℕ) (o : Option Token) (k : Token) → OneOf (0 ∷ 1 ∷ 2 ∷ 4 ∷ []) (tag_of the_type k) → o ≡ Some k → closed_at e o ≡ Err (F.Malformed e)
-closed-other e o k h q = ap (closed_at e) q ∙ closed_by e k h
+use Rattle.type_text.specs.Scan.{Scanned, scan_on}
 
 not_times : OneOf (0 ∷ 1 ∷ 2 ∷ 3 ∷ []) 4 → ⊥
 not_times = ⊎_elim (λ h. omega arith) (⊎_elim (λ h. omega arith) (⊎_elim (λ h. omega arith) (λ h. omega arith)))

@@ -62,9 +62,9 @@ module _ {x : TypeAt} {from : ℕ} (old : List ℕ) where
 
 -- ---- moving one place on
 
-pub lead-is : (page part turned : List ℕ) (n kind : ℕ) → n + 1 ≤ length page → part ≡ take (n + 1) page → turned ≡ drop (length part - 1) part ++ take (length part - 1) part → set (turned ++ drop (n + 1) page) 0 kind ≡ led_by kind n page
+pub lead_is : (page part turned : List ℕ) (n kind : ℕ) → n + 1 ≤ length page → part ≡ take (n + 1) page → turned ≡ drop (length part - 1) part ++ take (length part - 1) part → set (turned ++ drop (n + 1) page) 0 kind ≡ led_by kind n page
 unfolding led_by
-lead-is page part turned n kind h e g =
+lead_is page part turned n kind h e g =
     let w : length part ≡ n + 1 = ap length e ∙ length-take-le (n + 1) page h in
     let z : n + 1 - 1 ≡ n = omega arith in
     let a : drop n part ≡ get_or part n 0 ∷ drop (n + 1) part = drop-next part n (omega arith) in

@@ -44,24 +44,12 @@ measured_of ns side room (deep p) = Err (F.Beyond p)
 
 -- ---- atoms
 
-module _ (ns : List (List ℕ)) (a : Atom) where
-  pub width_bool : a ≡ A.Bool → 4 ≡ length (text_atom ns (atom_is a))
-  unfolding text_atom atom_is
-  width_bool e = sym (rw e)
-
-  pub width_integer : a ≡ A.Integer → 3 ≡ length (text_atom ns (atom_is a))
-  unfolding text_atom atom_is
-  width_integer e = sym (rw e)
-
 module _ (t : List ℕ) (a : Atom) (n : Name) (ea : a ≡ A.Given n) (q : Option (Bor (List ℕ))) (l : Named t n.0 q) where
   pub text-missing : q ≡ None → text_atom (names t) (atom_is a) ≡ []
   unfolding text_atom atom_is Named
   text-missing e =
       let l' : Named t n.0 None = rw e at l in
       rw ea (get_or-eq_default (names t) [] l')
-
-  pub width_missing : q ≡ None → 0 ≡ length (text_atom (names t) (atom_is a))
-  width_missing e = sym (ap length (text-missing e))
 
   pub text-given : (w : Bor (List ℕ)) → q ≡ Some w → w.now ≡ text_atom (names t) (atom_is a)
   unfolding text_atom atom_is Named

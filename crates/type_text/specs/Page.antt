@@ -4,7 +4,7 @@ use Rattle.std.specs.Prelude.{ℕ, ◌+◌, ◌-◌, ◌≤◌, ◌≡◌, refl,
 use Rattle.std.proofs.Common.{arith, ap, ◌∙◌, append_assoc, append-nil, drop_of_length-le, length-drop, length-append, drop-drop, take_all, take_at, drop_at, length-take-le}
 use Rattle.std.proofs.Math.Path.{sym}
 use borrow.Author.Tests.{le-leb, lt-leb, leb-true, leb-false}
-use Rattle.std.specs.Option.{SomeIff, is_some}
+use Rattle.std.specs.Option.{is_some}
 use Rattle.types.specs.Record.{pick}
 
 unfoldable pub spend_of : Option ℕ → ℕ → Option ℕ
@@ -18,15 +18,6 @@ pub record Splice (from : ℕ) (x old new : List ℕ) (n : ℕ) : Type 0 where
   pub page : new ≡ take from old ++ (x ++ drop (from + length x) old)
 
 -- ---- room
-
-pub spend_none : (room : Option ℕ) (n : ℕ) → room ≡ None → None ≡ spend_of room n
-unfolding spend_of
-spend_none room n e = sym (rw e)
-
-pub spend_some : (room : Option ℕ) (n k : ℕ) (r : Option ℕ) → room ≡ Some k → SomeIff r (n ≤ k) (k - n) → r ≡ spend_of room n
-unfolding spend_of
-spend_some room n k None e h = sym (rw (e, lt-leb n k (omega (arith, h))))
-spend_some room n k (Some j) e h = sym (rw (e, le-leb n k h.0, ← h.1))
 
 -- spending twice is spending the sum
 pub spend_twice : (room : Option ℕ) (a b : ℕ) → spend_of (spend_of room a) b ≡ spend_of room (a + b)

@@ -3,6 +3,7 @@ ghost use Rattle.std.specs.Prelude.{◌≡◌, ℕ, ◌+◌, ◌≤◌, length};
 ghost use Rattle.type_text.specs.Page.{spend_of, Splice};
 
 // What is left of a page after n bytes more; None: it is overrun. Nothing is added up, so nothing can wrap.
+#[tactic(auto, unfolding(crate::specs::Page::spend_of))]
 pub(crate) fn spend(room: Option<usize>, n: usize) -> Option<usize>
     ensures { result ≡ spend_of room n }
 {

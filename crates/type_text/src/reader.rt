@@ -43,6 +43,7 @@ fn deeper(d: u8) -> u8
     d.saturating_add(1).min(65)
 }
 
+#[tactic(auto, unfolding(types::specs::Ty::spell_atom, types::specs::Code::atom_is))]
 fn atom_record_width(a: Atom) -> usize
     ensures { result ≡ length (spell_atom (atom_is a)) }
 {
@@ -63,6 +64,7 @@ const KIND_POWER: [u8; 1] = [0x43];
 const KIND_PRODUCT: u8 = 0x44;
 
 // Moves the first n bytes of a page one place on, and puts a kind before them.
+#[tactic(auto, using(crate::specs::Lay::lead_is))]
 fn lead(page: &mut [u8], n: usize, kind: u8)
     requires { n + 1 ≤ length page.old }
     ensures { page.new ≡ led_by kind n page.old }
@@ -101,6 +103,7 @@ impl Reader<'_> {
     }
 
     // The offset after the closing bracket that is due.
+    #[tactic(auto, unfolding(crate::specs::Scan::closed_at))]
     fn close(&self, at: usize) -> Result<usize, Fault<usize>>
         ensures { result ≡ closed_at at (token_at (names self.now.table.now) self.now.text.now at) }
     {

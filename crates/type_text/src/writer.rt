@@ -46,6 +46,7 @@ pub(crate) struct Writer<'a> {
 
 impl Writer<'_> {
     // How many bytes an atom's text has.
+    #[tactic(auto, unfolding(type_grammar::specs::Text::text_atom, types::specs::Code::atom_is, name_table::specs::Table::Named))]
     fn atom_width(&self, a: Atom) -> usize
         ensures { result ≡ length (text_atom (names self.now.table.now) (atom_is a)) }
     {
