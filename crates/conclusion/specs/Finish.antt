@@ -19,7 +19,7 @@ use Rattle.inference.specs.Finish.{Question, Findings, ask, ask_name, names, Out
 use Rattle.inference.specs.Finish as F
 use Rattle.machine.specs.State.{State}
 use Rattle.forms.specs.Forms.{test, then}
-use Rattle.machine.specs.Machine.{Mach, cell, word_of}
+use Rattle.machine.specs.Machine.{Mach, cell}
 use Rattle.finisher.specs.Finisher.{settle_of, each_of, name_of, slot_of, test_names_of, test_slots_of, clean_of, finish_of}
 use Rattle.simulation.specs.Relation.{Wrote, Stands, Listed, Filled}
 use Rattle.machine.specs.Still.{test_yes, test_no}

@@ -1,8 +1,8 @@
 -- The finish's tests: the machine, going through a row of references, ends as `ask` ends on the questions that the row stands for.
 -- After this file a reader knows that the tests cost and list what inference says they do, and change nothing else.
-use Rattle.std.specs.Prelude.{ℕ, zero, suc, ◌+◌, Bool, eqb, length}
+use Rattle.std.specs.Prelude.{ℕ, suc, ◌+◌, Bool, eqb, length}
 use Rattle.std.proofs.Math.Path.{◌≡◌, refl, ap, subst}
-use Rattle.std.proofs.Common.{sym, ◌∙◌, arith, eq-eqb, ne_eqb}
+use Rattle.std.proofs.Common.{sym, ◌∙◌, arith, eq-eqb}
 use Rattle.std.proofs.Math.Bool.{true, false}
 use mathlib.Core.List.{List, [], ◌∷◌, ◌++◌}
 use Rattle.meter.specs.Meter.{Out, spent, halt, done, Why, M, ret, on, ◌>>=◌}
@@ -17,7 +17,7 @@ use Rattle.forms.specs.Forms.{then}
 use Rattle.machine.specs.Machine.{Mach, with_st, left_of, stopped_of, list_of}
 use Rattle.finisher.specs.Finisher.{told_by, settle_of, each_of}
 use Rattle.simulation.specs.Relation.{Wrote}
-use Rattle.machine.specs.Still.{Halted, test_yes, test_no}
+use Rattle.machine.specs.Still.{Halted, test_yes}
 use Rattle.finisher.specs.Still.{still_each}
 use Rattle.simulation.specs.Steps.{nil_right}
 use Rattle.simulation.specs.Output.{assoc, Spoke, list_spoke}

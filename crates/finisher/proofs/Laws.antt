@@ -1,5 +1,5 @@
 -- Laws that the proofs of the finish cite: what the answers of the test and of the writer do to the machine and the turns of a row's loop.
-use Rattle.std.proofs.Common.{ℕ, zero, suc, ◌+◌, ◌-◌, ◌≤◌, ◌<◌, sym, arith, ◌≡◌, ap, ◌∙◌, refl, Bool, true, false, List, eqb, ne_eqb}
+use Rattle.std.proofs.Common.{ℕ, suc, ◌+◌, ◌-◌, ◌≤◌, ◌<◌, sym, arith, ◌≡◌, ap, ◌∙◌, refl, Bool, true, false, List}
 use Rattle.std.specs.Prelude.{Result, Ok, Err}
 use Rattle.meter.specs.Meter.{Out}
 use Rattle.unification.specs.Arena as A
@@ -11,11 +11,11 @@ use Rattle.write.specs.declared.WriteError.{WriteError}
 use Rattle.write.specs.declared.WriteError.TheVariants as Wr
 use Rattle.write.specs.Answers.{laid}
 use Rattle.forms.specs.Forms.{test, then}
-use Rattle.machine.specs.Machine.{Mach, cell, word_of, on_st, left_of, stopped_of, bytes_of, over_of, list_of, emit_of, two_of, four_of}
-use Rattle.machine.specs.Still.{Halted, test_no, test_eq, still_emit, still_two, still_four}
+use Rattle.machine.specs.Machine.{Mach, on_st, left_of, stopped_of, bytes_of, over_of, list_of}
+use Rattle.machine.specs.Still.{test_no, test_eq}
 use Rattle.machine.specs.declared.Machine.{Machine}
 use Rattle.machine.specs.Seen.{machine, halted, stop_number}
-use Rattle.finisher.specs.Finisher.{most, told_by, settle_of, name_of, slot_of, laid_by, spell_of, entry_of, type_of, each_of, test_slots_of, write_slots_of}
+use Rattle.finisher.specs.Finisher.{most, told_by, settle_of, laid_by, spell_of, each_of}
 
 -- ---- the test's answers
 abbrev pub told_next : Result Bool Halt → ℕ → ℕ → ℕ → ℕ → Mach → Mach

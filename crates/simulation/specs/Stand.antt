@@ -1,6 +1,6 @@
 -- Steps that only move the walk: the place it stands at, the expression it comes from, the last reference.
 -- After this file such a step runs the empty piece, and a step may be replaced by what it is while the walk goes on.
-use Rattle.std.specs.Prelude.{ℕ, ◌≤◌, ◌≡◌, Bool, true, false, List, [], length, get_or, eqb, leb}
+use Rattle.std.specs.Prelude.{ℕ, ◌≤◌, ◌≡◌, List, [], length, get_or, eqb, leb}
 use Rattle.std.proofs.Math.Path.{refl, subst}
 use Rattle.std.proofs.Common.{sym, ◌∙◌, ap, arith, le-leb, eq-eqb}
 use Rattle.meter.specs.Meter.{Out, spent, halt, broken, full}

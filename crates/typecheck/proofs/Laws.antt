@@ -1,5 +1,5 @@
 -- Small facts for the proofs of this crate.
-use Rattle.std.proofs.Common.{ℕ, ◌≤◌, ◌<◌, sym, ap, arith, List, ◌≡◌, ◌∙◌, length, take}
+use Rattle.std.proofs.Common.{ℕ, ◌<◌, sym, ap, arith, List, ◌≡◌, ◌∙◌, length, take}
 use Rattle.std.proofs.Math.Decide.{dec_lt}
 use Rattle.std.proofs.Math.Seq.{take_all}
 use Prim.Native.Nat.{min}

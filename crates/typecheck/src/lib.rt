@@ -29,14 +29,7 @@ fn walk(
     ensures { judged result output.new ≡ judge_of budget (run_of formula.now environment.now types.now size budget (take (size + 4096) work.old) output.old) }
 {
     let n = work.len().min(size as usize + types::BOOK);
-    let mut machine = Machine::new(
-        formula,
-        environment,
-        size,
-        budget,
-        &mut work[..n],
-        output,
-    );
+    let mut machine = Machine::new(formula, environment, size, budget, &mut work[..n], output);
     memory::clear_words(machine.work, size as usize);
     runner::enter_types(&mut machine, types);
     walker::formula(&mut machine)?;
@@ -61,7 +54,11 @@ fn infer_formula(
 {
     match formula::check_formula(formula, names) {
         Err(FormError::TooLong) => Err(Refusal::Oversized),
-        Err(FormError::At(fault)) => runner::close(Err(runner::blame(Input::Formula, fault)), output, work),
+        Err(FormError::At(fault)) => runner::close(
+            Err(runner::blame(Input::Formula, fault)),
+            output,
+            work,
+        ),
         Ok(()) => {
             let answer = walk(
                 formula,

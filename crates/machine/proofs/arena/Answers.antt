@@ -1,4 +1,4 @@
-use Rattle.std.proofs.Common.{refl, take, sym, length-take-le}
+use Rattle.std.proofs.Common.{refl, take}
 use Rattle.machine.proofs.Laws.{lent}
 use Rattle.machine.proofs.arena.Goals as goal
 

@@ -1,4 +1,4 @@
-use Rattle.std.proofs.Common.{Err, ap, ◌∙◌, sym, arith, rules}
+use Rattle.std.proofs.Common.{◌∙◌, sym, arith, rules}
 use Rattle.assembly.specs.Entry.{oversized_call}
 use Rattle.inference.proofs.Sizes.{sized-holds}
 use Rattle.typecheck.proofs.Calls.{infer_long, infer_bad, infer_good}
