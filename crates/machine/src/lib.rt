@@ -80,6 +80,7 @@ pub struct Machine<'a, 'b> {
 }
 
 // ---- the book: areas of the words behind the arena, each by where it begins and the words of an entry
+// Arena and book stand in lent words of one layout, with no heap; what is left in those words is settled (`call_of` of crate `runner`).
 
 #[derive(Clone, Copy)]
 pub struct Area {
