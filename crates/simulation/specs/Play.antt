@@ -1,5 +1,5 @@
--- Scripts: playing a script of the machine's table runs the walk's script, for every operator at once.
--- After this file `runs_script` serves every operator; that the two tables agree is computed.
+-- Scripts: playing a script of the machine runs the walk's script, for every operator at once.
+-- After this file `runs_script` serves every operator; that the scripts and the walk's tables agree is computed.
 use Prim.Native.Nat.{ℕ, zero, suc, ◌+◌, ◌≤◌, ◌<◌}
 use Rattle.std.specs.Prelude.{◌≡◌, Bool, true, ◌&&◌, ltb}
 use Rattle.std.proofs.Math.Path.{refl, ap, ap₂, subst}

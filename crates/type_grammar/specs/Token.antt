@@ -24,7 +24,7 @@ unfoldable pub name_token : Option Name → ℕ → Option Token
 name_token (Some k) e = Some (Leaf (A.Given k) e)
 name_token None e = None
 
--- a word that ends at e: BOOL, or a name of the table, or wrong
+-- a word that ends at e: BOOL, or a name of the table, or nothing
 unfoldable pub word_token_at : List (List ℕ) → ℕ → List ℕ → Option Token
 word_token_at ns e w = pick (same boolean w) (Some (Leaf A.Bool e)) (name_token (find ns w) e)
 
