@@ -2,7 +2,7 @@
 --
 -- `spent` is number 7, `halt broken` 2, `halt full` 6; `done` has the answer and the budget left.
 -- Where a function changes the words, the reading takes them as they are at exit, so that one equation says answer and words.
-use Rattle.std.specs.Prelude.{ℕ, Bool, true, false, Option, Some, None, Result, Ok, Err}
+use Rattle.std.specs.Prelude.{◌≡◌, ℕ, Bool, true, false, Option, Some, None, Result, Ok, Err}
 use Rattle.meter.specs.Meter.{Out, spent, halt, done, broken}
 use Rattle.unification.specs.Arena as S
 use Rattle.unification.specs.Tasks as T
@@ -83,3 +83,8 @@ verdict_of J.Mismatch = Ok V.Mismatch
 verdict_of J.Circular = Ok V.Circular
 verdict_of J.Spent = Err Spent
 verdict_of J.Broken = Err Broken
+
+-- where there is no answer, the budget is what it was
+abbrev pub spared : {A : Type 0} → Result A Halt → ℕ → ℕ → Type 0
+spared (Ok a) b l = Unit
+spared (Err h) b l = l ≡ b
