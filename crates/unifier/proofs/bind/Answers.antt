@@ -1,17 +1,15 @@
-use Rattle.std.proofs.Common.{sym, ◌∙◌}
-use Rattle.unification.proofs.CodeLaws.{assign_circular, assign-spent, assign_broken}
-use Rattle.unifier.specs.declared.Told.TheVariants.{Yes, No, Spent, Broken}
-use Rattle.unifier.proofs.Laws.{told_as, assign-merged}
+use Rattle.std.proofs.Common.{◌≡◌, Err, sym, arith}
+use Rattle.unification.proofs.CodeLaws.{assign_circular}
+use Rattle.unifier.proofs.Laws.{assign-halted, assign-merged}
 use Rattle.unifier.proofs.bind.Goals as goal
 
-pub returns-in-Yes : goal.returns-in-Yes
-returns-in-Yes c = sym (assign_circular _ _ _ _ _ _ (sym c.seek-found.ensures ∙ told_as _ Yes _ c.in-Yes.is))
+pub returns-in_err-occurs : goal.returns-in_err-occurs
+returns-in_err-occurs c =
+    let r : c.from_residual.result ≡ Err c.in_err-occurs.field-0.0 = grind arith in
+    rw r (assign-halted _ _ _ _ _ _ c.in_err-occurs.ensures)
 
-pub returns-in-No : goal.returns-in-No
-returns-in-No c = assign-merged _ _ _ _ _ _ _ (sym (told_as _ No _ c.in-No.is) ∙ c.seek-found.ensures) c.merge.ensures
+pub returns-then-branch : goal.returns-then-branch
+returns-then-branch c = sym (assign_circular _ _ _ _ _ _ (sym (rw c.if-branch.true at c.in_ok-occurs.ensures)))
 
-pub returns-in-Spent : goal.returns-in-Spent
-returns-in-Spent c = sym (assign-spent _ _ _ _ _ (sym c.seek-found.ensures ∙ told_as _ Spent c.seek-found.new.left c.in-Spent.is))
-
-pub returns-in-Broken : goal.returns-in-Broken
-returns-in-Broken c = sym (assign_broken _ _ _ _ _ (sym c.seek-found.ensures ∙ told_as _ Broken c.seek-found.new.left c.in-Broken.is))
+pub returns : goal.returns
+returns c = assign-merged _ _ _ _ _ _ _ (rw c.if-branch.false at c.in_ok-occurs.ensures) c.merge.ensures
