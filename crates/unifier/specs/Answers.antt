@@ -2,7 +2,7 @@
 --
 -- `spent` is number 7, `halt broken` 2, `halt full` 6; `done` has the answer and the budget left.
 -- Where a function changes the words, the reading takes them as they are at exit, so that one equation says answer and words.
-use Rattle.std.specs.Prelude.{ℕ, Bool, true, false, Option, Some, None, Result, Ok, Err}
+use Rattle.std.specs.Prelude.{◌≡◌, ℕ, Bool, Option, Some, None, Result, Ok, Err}
 use Rattle.meter.specs.Meter.{Out, spent, halt, done, broken}
 use Rattle.unification.specs.Arena as S
 use Rattle.unification.specs.Tasks as T
@@ -16,10 +16,6 @@ use Rattle.unifier.specs.declared.Pair.{Pair}
 use Rattle.unifier.specs.declared.Pair.TheVariants as P
 use Rattle.unifier.specs.declared.Verdict.{Verdict}
 use Rattle.unifier.specs.declared.Verdict.TheVariants as V
-use Rattle.unifier.specs.declared.Told.{Told}
-use Rattle.unifier.specs.declared.Told.TheVariants as To
-use Rattle.unifier.specs.declared.Joined.{Joined}
-use Rattle.unifier.specs.declared.Joined.TheVariants as J
 
 unfoldable pub stem_is : Stem → S.Node
 stem_is x = S.decode x.kind x.a x.b
@@ -62,24 +58,7 @@ abbrev pub settled : Result Verdict Halt → ℕ → S.Words → Out S.Words S.A
 settled (Ok v) l ws = done (verdict_is v, ws) l
 settled (Err h) l ws = halted h ws
 
--- ---- what goes up between levels
-abbrev pub told_of : Halt → Told
-told_of Spent = To.Spent
-told_of Broken = To.Broken
-
-abbrev pub answer_of : Told → Result Bool Halt
-answer_of To.Yes = Ok true
-answer_of To.No = Ok false
-answer_of To.Spent = Err Spent
-answer_of To.Broken = Err Broken
-
-abbrev pub joined_of : Halt → Joined
-joined_of Spent = J.Spent
-joined_of Broken = J.Broken
-
-abbrev pub verdict_of : Joined → Result Verdict Halt
-verdict_of J.Done = Ok V.Done
-verdict_of J.Mismatch = Ok V.Mismatch
-verdict_of J.Circular = Ok V.Circular
-verdict_of J.Spent = Err Spent
-verdict_of J.Broken = Err Broken
+-- where there is no answer, the budget is what it was
+abbrev pub spared : {A : Type 0} → Result A Halt → ℕ → ℕ → Type 0
+spared (Ok a) b l = Unit
+spared (Err h) b l = l ≡ b

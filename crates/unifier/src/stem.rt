@@ -1,4 +1,4 @@
-// A node that is no binding, as the three words that it is.
+// A node that is no binding, as the three words that it is, and no `types::Node`: the recursions match on the kind's number (see `Told`).
 
 ghost use Rattle.std.specs.Prelude.{◌≡◌};
 ghost use Rattle.unification.specs.Arena.{decode};

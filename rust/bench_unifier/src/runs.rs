@@ -142,17 +142,17 @@ pub fn deep(name: &str, depth: u32, bytes: usize) {
             "unify" => {
                 words[0] = 0x41;
                 for i in 0..2 * depth {
-                    words.extend([0x43, i, 0]);
+                    words.extend([0x44, i, 1]);
                 }
                 proved::unify(&mut words, &mut left, 2 * depth + 2, 2 * depth, 2 * depth + 1)
             }
             "circle" => {
                 left = u64::from(depth);
-                proved::solved(&[0x43, 0, 0], &mut left, 1, 0)
+                proved::solved(&[0x44, 0, 0], &mut left, 1, 0)
             }
             _ => {
                 for i in 1..=depth {
-                    words.extend([0x43, i, 0]);
+                    words.extend([0x44, i, 1]);
                 }
                 if name == "occurs" {
                     proved::unify(&mut words, &mut left, depth + 2, 0, depth + 1)

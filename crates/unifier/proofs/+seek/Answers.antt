@@ -1,58 +1,69 @@
-use Rattle.std.proofs.Common.{◌≡◌, ◌≢◌, sym, arith, ◌∙◌, rules}
-use Rattle.unification.specs.Code.{occurs-here, occurs-power, occurs-pair_no, occurs-leaf, occurs-left, reach-left}
-use Rattle.unifier.specs.declared.Told.TheVariants.{No}
-use Rattle.unifier.specs.Answers.{stem_is, arrived, told_of}
-use Rattle.unifier.proofs.Laws.{occurs-halted, occurs-stop, told_as}
+use Rattle.std.proofs.Common.{◌≡◌, ◌≢◌, Err, refl, sym, arith, ◌∙◌, rules}
+use Rattle.unification.specs.Code.{occurs-here, occurs-power, occurs-pair_yes, occurs-pair_no, occurs-leaf, occurs-left, reach-left}
+use Rattle.unifier.specs.Answers.{stem_is, arrived}
+use Rattle.unifier.proofs.Laws.{occurs-halted, occurs-left-halted}
 use Rattle.unifier.proofs.+seek.Goals as goal
 
-pub returns-in-Err : goal.returns-in-Err
+pub loop-reached-init : goal.loop-reached-init
+loop-reached-init t c = (refl, omega arith)
+
+pub returns-in_err-reached : goal.returns-in_err-reached
 unfolding arrived
-returns-in-Err t c =
-    let r : c.from.result ≡ told_of c.in-Err.halt = c.from.ensures in
-    rw r (occurs-halted _ _ _ _ _ _ _ c.in-Err.ensures)
+returns-in_err-reached t c =
+    let r : c.from_residual.result ≡ Err c.in_err-reached.field-0.0 = grind arith in
+    rw r (occurs-halted _ _ _ _ _ _ c.in_err-reached.ensures ∙ c.loop-reached.invariant.0)
 
 pub returns-then-eq : goal.returns-then-eq
 unfolding arrived stem_is
 returns-then-eq t c =
-    let e : c.in-Ok.reached.at.0 ≡ c.args.sought.0 = search rules in
-    sym (occurs-here _ _ _ _ _ _ _ _ (sym c.in-Ok.ensures) e)
+    let e : c.in_ok-reached.reached.at.0 ≡ c.args.sought.0 = search rules in
+    sym (occurs-here _ _ _ _ _ _ _ _ (sym c.in_ok-reached.ensures) e) ∙ c.loop-reached.invariant.0
+
+pub loop-reached-smaller-in-67 : goal.loop-reached-smaller-in-67
+unfolding arrived stem_is
+loop-reached-smaller-in-67 t c = reach-left _ _ _ _ _ _ (sym c.in_ok-reached.ensures)
+
+pub loop-reached-preserved-in-67 : goal.loop-reached-preserved-in-67
+unfolding arrived stem_is
+loop-reached-preserved-in-67 t c =
+    let d : c.in_ok-reached.reached.at.0 ≢ c.args.sought.0 = search rules in (
+      sym (occurs-power _ _ _ _ _ _ _ _ _ (sym c.in_ok-reached.ensures) _ d c.in-67.is) ∙ c.loop-reached.invariant.0,
+      omega (arith, reach-left _ _ _ _ _ _ (sym c.in_ok-reached.ensures), c.loop-reached.invariant.1),
+    )
 
 pub seek-requires : goal.seek-requires
 unfolding arrived stem_is
-seek-requires t c = (omega (arith, reach-left _ _ _ _ _ _ (sym c.in-Ok.ensures), c.decreases), tt)
+seek-requires t c = (omega (arith, reach-left _ _ _ _ _ _ (sym c.in_ok-reached.ensures), c.loop-reached.invariant.1, c.decreases), tt)
 
-pub seek-first-requires : goal.seek-first-requires
+pub returns-in_err-found-in-68 : goal.returns-in_err-found-in-68
 unfolding arrived stem_is
-seek-first-requires t c = (omega (arith, reach-left _ _ _ _ _ _ (sym c.in-Ok.ensures), c.decreases), tt)
+returns-in_err-found-in-68 t c =
+    let d : c.in_ok-reached.reached.at.0 ≢ c.args.sought.0 = search rules in
+    let r : c.from_residual-in_err-found-in-68.result ≡ Err c.in_err-found-in-68.field-0.0 = grind arith in
+    rw r (occurs-left-halted _ _ _ _ _ _ _ _ _ (sym c.in_ok-reached.ensures) _ d c.in-68.is _ c.in_err-found-in-68.ensures ∙ c.loop-reached.invariant.0)
 
-pub returns-then-ne : goal.returns-then-ne
+pub returns-then-found : goal.returns-then-found
 unfolding arrived stem_is
-returns-then-ne t c =
-    let d : c.in-Ok.reached.at.0 ≢ c.args.sought.0 = search rules in
-    let f : c.seek-first.result ≢ No = search rules in
-    occurs-stop _ _ _ _ _ _ _ _ _ (sym c.in-Ok.ensures) _ d c.in-68.is c.seek-first.result _ f c.seek-first.ensures
+returns-then-found t c =
+    let d : c.in_ok-reached.reached.at.0 ≢ c.args.sought.0 = search rules in
+    let e = rw c.if-found.true at c.in_ok-found-in-68.ensures in
+    rw c.if-found.true (sym (occurs-pair_yes _ _ _ _ _ _ _ _ _ (sym c.in_ok-reached.ensures) _ d _ c.in-68.is (sym e)) ∙ c.loop-reached.invariant.0)
 
-pub seek-requires-in-68 : goal.seek-requires-in-68
+pub loop-reached-smaller : goal.loop-reached-smaller
 unfolding arrived stem_is
-seek-requires-in-68 t c =
-    let f : c.seek-first.result ≡ No = search rules in
-    (omega (arith, reach-left _ _ _ _ _ _ (sym c.in-Ok.ensures), occurs-left _ _ _ _ _ _ _ (sym c.seek-first.ensures ∙ told_as _ No _ f), c.decreases), tt)
+loop-reached-smaller t c = omega (arith, reach-left _ _ _ _ _ _ (sym c.in_ok-reached.ensures), occurs-left _ _ _ _ _ _ _ (sym c.in_ok-found-in-68.ensures))
 
-pub returns-in-67 : goal.returns-in-67
+pub loop-reached-preserved : goal.loop-reached-preserved
 unfolding arrived stem_is
-returns-in-67 t c =
-    let d : c.in-Ok.reached.at.0 ≢ c.args.sought.0 = search rules in
-    c.seek.ensures ∙ sym (occurs-power _ _ _ _ _ _ _ _ _ (sym c.in-Ok.ensures) _ d c.in-67.is)
-
-pub returns-else-ne : goal.returns-else-ne
-unfolding arrived stem_is
-returns-else-ne t c =
-    let d : c.in-Ok.reached.at.0 ≢ c.args.sought.0 = search rules in
-    let f : c.seek-first.result ≡ No = search rules in
-    c.seek-in-68.ensures ∙ sym (occurs-pair_no _ _ _ _ _ _ _ _ _ (sym c.in-Ok.ensures) _ d _ c.in-68.is (sym c.seek-first.ensures ∙ told_as _ No _ f))
+loop-reached-preserved t c =
+    let d : c.in_ok-reached.reached.at.0 ≢ c.args.sought.0 = search rules in
+    let e = rw c.if-found.false at c.in_ok-found-in-68.ensures in (
+      sym (occurs-pair_no _ _ _ _ _ _ _ _ _ (sym c.in_ok-reached.ensures) _ d _ c.in-68.is (sym e)) ∙ c.loop-reached.invariant.0,
+      omega (arith, reach-left _ _ _ _ _ _ (sym c.in_ok-reached.ensures), occurs-left _ _ _ _ _ _ _ (sym c.in_ok-found-in-68.ensures), c.loop-reached.invariant.1),
+    )
 
 pub returns-in_default : goal.returns-in_default
 unfolding arrived stem_is
 returns-in_default t c =
-    let d : c.in-Ok.reached.at.0 ≢ c.args.sought.0 = search rules in
-    sym (occurs-leaf _ _ _ _ _ _ _ _ _ (sym c.in-Ok.ensures) _ d c.in_default.in_default-own.rest.0.1 c.in_default.in_default-own.rest.1)
+    let d : c.in_ok-reached.reached.at.0 ≢ c.args.sought.0 = search rules in
+    sym (occurs-leaf _ _ _ _ _ _ _ _ _ (sym c.in_ok-reached.ensures) _ d c.in_default.in_default-own.rest.0.1 c.in_default.in_default-own.rest.1) ∙ c.loop-reached.invariant.0

@@ -13,7 +13,7 @@ returns-then-x-eq-UNKNOWN c = rw c.if-x-eq-UNKNOWN.true
 
 pub returns-then-y-eq-UNKNOWN : goal.returns-then-y-eq-UNKNOWN
 unfolding stem_is
-returns-then-y-eq-UNKNOWN c = sym (task_right _ _ _ _ _ _ _ _ c.args.x.is_root c.if-x-eq-UNKNOWN.false c.if-y-eq-UNKNOWN.true)
+returns-then-y-eq-UNKNOWN c = sym (task_right _ _ _ _ _ _ _ _ c.args.first.node.is_root c.if-x-eq-UNKNOWN.false c.if-y-eq-UNKNOWN.true)
 
 pub returns-then-x-y : goal.returns-then-x-y
 unfolding task_of stem_is
@@ -41,8 +41,8 @@ returns-in-64-to-65 c = sym (task_plain _ _ _ _ _ _ _ _ c.in-64-to-65.if-kind-lt
 
 pub returns-in_default : goal.returns-in_default
 unfolding stem_is
-returns-in_default c = absurd (no_seventh _ _ _ c.args.x.is_root c.if-x-eq-UNKNOWN.false c.in_default.in_default-own.rest.0.0.1 c.in_default.in_default-own.rest.0.1 c.in_default.in_default-own.rest.1 (inl c.in_default.if-kind-lt64-own.true))
+returns-in_default c = absurd (no_seventh _ _ _ c.args.first.node.is_root c.if-x-eq-UNKNOWN.false c.in_default.in_default-own.rest.0.0.1 c.in_default.in_default-own.rest.0.1 c.in_default.in_default-own.rest.1 (inl c.in_default.if-kind-lt64-own.true))
 
 pub returns-in_default-2 : goal.returns-in_default-2
 unfolding stem_is
-returns-in_default-2 c = absurd (no_seventh _ _ _ c.args.x.is_root c.if-x-eq-UNKNOWN.false c.in_default.in_default-own.rest.0.0.1 c.in_default.in_default-own.rest.0.1 c.in_default.in_default-own.rest.1 (inr c.in_default.if-kind-lt66-own.false))
+returns-in_default-2 c = absurd (no_seventh _ _ _ c.args.first.node.is_root c.if-x-eq-UNKNOWN.false c.in_default.in_default-own.rest.0.0.1 c.in_default.in_default-own.rest.0.1 c.in_default.in_default-own.rest.1 (inr c.in_default.if-kind-lt66-own.false))
