@@ -25,6 +25,7 @@ fn settle(
     ensures value { walked result walk.new ≡ settle_of t.0 (problem_number problem) place.0 (name_number name) (machine walk.old) }
     ensures kept { Kept walk.old walk.new }
 {
+    // a copy: at a stop the budget stays as it was
     let mut left = walk.budget;
     let solved = walk.solved(t, &mut left)?;
     walk.budget = left;
@@ -89,7 +90,7 @@ fn test_slots(walk: &mut Machine) -> Result<(), Stop>
 
 // Whether nothing is listed.
 #[tactic(auto, using(machine::specs::Seen::still, machine::specs::Still::tests, crate::specs::Still::still), unfolding(crate::specs::Finisher::clean_of, forms::specs::Forms::then))]
-fn clean(walk: &Machine) -> bool
+pub fn clean(walk: &Machine) -> bool
     ensures { result ≡ clean_of (machine walk.now).st }
 {
     !walk.over && walk.bytes == 0

@@ -1,6 +1,6 @@
 -- Laws that the proofs of the machine's steps cite: the arena lent as the first words of the work slice, what the unifier's answers do, and the
 -- recursive readers at a number of levels.
-use Rattle.std.proofs.Common.{ℕ, zero, suc, ◌+◌, ◌-◌, ◌*◌, ◌≤◌, ◌<◌, sym, arith, sub-one, length-take-le, List, [], ◌∷◌, ◌++◌, ◌≡◌, ap, ap₂, ◌∙◌, refl, eqb, length, take, drop, set, mul-le-mul_right, le_of_lt, drop_of_length-le}
+use Rattle.std.proofs.Common.{ℕ, zero, suc, ◌+◌, ◌-◌, ◌/◌, ◌%◌, ◌≤◌, ◌<◌, sym, arith, sub-one, length-take-le, List, [], ◌∷◌, ◌++◌, ◌≡◌, ap, ap₂, ◌∙◌, refl, eqb, length, take, drop, set, le_of_lt, drop_of_length-le}
 use Prim.Native.Nat.{min}
 use Rattle.std.proofs.Math.Decide.{dec_lt}
 use Rattle.std.proofs.Math.Seq.{take_all, take_at, drop_at, set_out}
@@ -32,13 +32,16 @@ use Rattle.machine.specs.Seen.{machine, made_of, unmade, halted, stop_number}
 use Rattle.machine.specs.declared.Machine.{Machine}
 use Rattle.machine.specs.Types.{atom_of, type_head, skip_by, skip_of, lift_by, lift_of, notes_by, notes_of, times_of}
 use Rattle.machine.specs.Scripts.{item_of, items_of}
-use Rattle.machine.specs.Machine.{Mach, mach, whole, with_st, on_st, expect_of, stopped_of, grown_of, left_of, grown_by, settled_by, judged_by, list_of, put_of, make_of}
+use Rattle.machine.specs.Machine.{Mach, mach, whole, with_st, on_st, expect_of, stopped_of, grown_of, left_of, grown_by, settled_by, judged_by, list_of, put_of, make_of, emit_of, two_of, four_of}
 
--- ---- numbers
-pub product : (a b : ℕ) → a < 4294967296 → b < 256 → a * b < 1099511627776
-product a b p q =
-    let h : a * b ≤ 4294967296 * b = mul-le-mul_right b (le_of_lt p) in
-    omega arith
+-- ---- four bytes, the lowest first
+pub four_bytes : (v : ℕ) (m : Mach) → four_of v m ≡ emit_of (v / 16777216 % 256) (emit_of (v / 65536 % 256) (emit_of (v / 256 % 256) (emit_of (v % 256) m)))
+unfolding four_of two_of then
+four_bytes v m =
+    let a : v % 65536 % 256 ≡ v % 256 = omega arith in
+    let b : v % 65536 / 256 % 256 ≡ v / 256 % 256 = omega arith in
+    let d : v / 65536 / 256 % 256 ≡ v / 16777216 % 256 = omega arith in
+    rw a (rw b (rw d refl))
 
 -- ---- the first `size` words
 append-nil : (l : List ℕ) → l ++ [] ≡ l

@@ -16,18 +16,18 @@ use Rattle.forms.specs.Forms.{test, then}
 use Rattle.machine.specs.Machine.{Mach, with_st, gave_of, make_of, expect_of}
 
 unfoldable pub parts_of : ℕ → ℕ → ℕ → ℕ → ℕ → State → Parts
-parts_of l pl r pr p v = record { left = record { 0 = l }; right = record { 0 = r }; place = record { 0 = p }; near = record { 0 = pl }; far = record { 0 = pr }; base = v.nodes }
+parts_of l pl r pr p v = record { left = record { node = record { 0 = l }; place = record { 0 = pl } }; right = record { node = record { 0 = r }; place = record { 0 = pr } }; place = record { 0 = p }; base = v.nodes }
 
 -- an operand: a part, or the script's own node
 unfoldable pub chosen_of : Operand → Parts → NodeRef
-chosen_of Left p = p.left
-chosen_of Right p = p.right
+chosen_of Left p = p.left.node
+chosen_of Right p = p.right.node
 chosen_of (Own j) p = test (ltb p.base 65536) (λ _. record { 0 = p.base + j }) (λ _. record { 0 = 0 })
 
 unfoldable pub place_of : Seat → Parts → Place
 place_of Whole p = p.place
-place_of Near p = p.near
-place_of Far p = p.far
+place_of Near p = p.left.place
+place_of Far p = p.right.place
 
 -- one item: a node, or a comparison
 unfoldable pub item_of : Item → Parts → Mach → Mach

@@ -52,6 +52,7 @@ impl From<Halt> for Stop {
     }
 }
 
+// `Kept` stands at each step: an invariant speaks of one value, and this of a machine before and after.
 #[derive(Drop)]
 pub struct Machine<'a, 'b> {
     pub formula: &'a [u8],
@@ -74,13 +75,15 @@ pub struct Machine<'a, 'b> {
     pub slots: u32,
     pub met: u32,
     pub bound: u32,
-    // the bytes written into the output, and whether one found no room
+    // the bytes written into the output, and whether one found no room: two fields, for of a machine that is over `machine` still reads the bytes
+    // before it (`over_of`)
     pub bytes: usize,
     pub over: bool,
 }
 
 // ---- the book: areas of the words behind the arena, each by where it begins and the words of an entry
 // Arena and book stand in lent words of one layout, with no heap; what is left in those words is settled (`call_of` of crate `runner`).
+// What may be missing is a number here, and no Option: the book is words of lent memory, all zero at first.
 
 #[derive(Clone, Copy)]
 pub struct Area {
@@ -119,43 +122,33 @@ fn cell(area: Area, j: u32, k: u32) -> usize
     ensures value { result ≡ cell area.start area.stride j k }
     ensures upper_bound { result < 17592186044416 }
 {
-    area.start as usize + j as usize * area.stride as usize + k as usize
+    area.start as usize + j as usize * usize::from(area.stride) + k as usize
 }
 
 // ---- problems
 
 #[derive(Clone, Copy, PartialEq, Eq)]
 pub enum Problem {
-    Mismatch,
-    Circular,
-    UntypedExpression,
-    UntypedName,
-    DanglingIndex,
-    Application,
+    Mismatch = 0,
+    Circular = 1,
+    UntypedExpression = 2,
+    UntypedName = 3,
+    DanglingIndex = 4,
+    Application = 5,
 }
 
 // A problem's number.
 fn number(problem: Problem) -> u8
     ensures { result ≡ problem_number problem }
 {
-    match problem {
-        Problem::Mismatch => 0,
-        Problem::Circular => 1,
-        Problem::UntypedExpression => 2,
-        Problem::UntypedName => 3,
-        Problem::DanglingIndex => 4,
-        Problem::Application => 5,
-    }
+    problem as u8
 }
 
 // What stands for a problem's name, where it has one, and where it has none.
 fn name_word(name: Option<Name>) -> u32
     ensures { result ≡ name_number name }
 {
-    match name {
-        Some(x) => x.0,
-        None => 0xFFFF,
-    }
+    name.map_or(0xFFFF, |x| x.0)
 }
 
 // ---- the arena: the first `size` words of the work slice are lent to the unifier, in functions that do nothing else
@@ -240,10 +233,8 @@ impl Machine<'_, '_> {
         ensures value { walked result self.new ≡ on_st (passed_of e) (machine self.old) }
         ensures kept { Kept self.old self.new }
     {
-        if e > 0xFFFFFFFF {
-            return Err(Stop::Broken);
-        }
-        self.placed(Place(e as u32));
+        let at = u32::try_from(e).map_err(|_| Stop::Broken)?;
+        self.placed(Place(at));
         Ok(())
     }
 
@@ -323,7 +314,7 @@ impl Machine<'_, '_> {
         ensures { result ≡ word_of (cell area.start area.stride j k) (machine self.now) }
     {
         let i = self.size as usize + cell(area, j, k);
-        if i < self.work.len() { self.work[i] } else { 0 }
+        self.work.get(i).copied().unwrap_or(0)
     }
 
     // Writes a word of the book; nothing outside.
@@ -364,18 +355,22 @@ impl Machine<'_, '_> {
         ensures value { machine self.new ≡ two_of v (machine self.old) }
         ensures kept { Kept self.old self.new }
     {
-        self.emit((v % 256) as u8);
-        self.emit((v / 256 % 256) as u8);
+        let [low, high, ..] = v.to_le_bytes();
+        self.emit(low);
+        self.emit(high);
     }
 
     // Four bytes, the lowest first.
-    #[tactic(auto, using(crate::specs::Seen::still, crate::specs::Still::tests), unfolding(crate::specs::Machine::four_of, forms::specs::Forms::then))]
+    #[tactic(auto, using(crate::specs::Seen::still, crate::specs::Still::tests, crate::proofs::Laws::four_bytes), unfolding(forms::specs::Forms::then))]
     pub fn emit_four(&mut self, v: u32)
         ensures value { machine self.new ≡ four_of v (machine self.old) }
         ensures kept { Kept self.old self.new }
     {
-        self.emit_two(v % 65536);
-        self.emit_two(v / 65536);
+        let [first, second, third, fourth] = v.to_le_bytes();
+        self.emit(first);
+        self.emit(second);
+        self.emit(third);
+        self.emit(fourth);
     }
 
     // A problem is listed: its entry goes straight into the output.
@@ -413,6 +408,7 @@ impl Machine<'_, '_> {
         ensures value { walked result self.new ≡ expect_of a.0 b.0 place.0 (machine self.old) }
         ensures kept { Kept self.old self.new }
     {
+        // a copy: at a stop the budget stays as it was
         let mut left = self.budget;
         let verdict = unified(self.work, self.size, self.nodes, a, b, &mut left)?;
         self.budget = left;
@@ -480,6 +476,8 @@ impl Machine<'_, '_> {
     }
 
     // ---- types in the stream
+    // Three descents of one shape, `skip`, `lift` and `note_spelled_givens`: each has its own definition (`skip_of`, `lift_of`, `notes_of`), which says
+    // where a stop leaves the walk, so that `types::type_end` does not do for the first; and what `lift` does after the parts the others have not.
 
     // Past the type record where the walk stands.
     #[tactic(auto, using(crate::specs::Seen::still, crate::specs::Still::tests, crate::proofs::Laws::levels), unfolding(crate::specs::Types::skip_by, crate::specs::Machine::stopped_of, forms::specs::Forms::then, types::specs::Code::head_is))]
@@ -505,7 +503,8 @@ impl Machine<'_, '_> {
         }
     }
 
-    // The type record where the walk stands, as nodes: parts first, left first.
+    // The type record where the walk stands, as nodes: parts first, left first. Crate `lift` does not do: a stop leaves the walk at the place reached,
+    // with the nodes made, and its answer tells neither.
     #[tactic(auto, using(crate::specs::Seen::still, crate::specs::Still::tests, crate::proofs::Laws::levels), unfolding(crate::specs::Types::lift_by, crate::specs::Machine::stopped_of, forms::specs::Forms::then, types::specs::Code::head_is))]
     fn lift(&mut self, source: &[u8], left: u32) -> Result<(), Stop>
         ensures value { walked result self.new ≡ lift_of left source.now (machine self.old) }
@@ -598,8 +597,7 @@ impl Machine<'_, '_> {
         ensures kept { Kept self.old self.new }
     {
         match a {
-            Atom::Bool => Ok(()),
-            Atom::Integer => Ok(()),
+            Atom::Bool | Atom::Integer => Ok(()),
             Atom::Given(x) => self.note(x, place),
         }
     }
@@ -660,13 +658,14 @@ impl Machine<'_, '_> {
         ensures kept { Kept self.old self.new }
     {
         let at = self.at;
-        let (k, e) = heads::byte_at(self.formula, at).ok_or(Stop::Broken)?;
-        if k == 0x4F {
-            self.list(Problem::Mismatch, at, None);
-            self.placed(e);
-            return Ok(());
+        match heads::byte_at(self.formula, at).ok_or(Stop::Broken)? {
+            (0x4F, e) => {
+                self.list(Problem::Mismatch, at, None);
+                self.placed(e);
+                Ok(())
+            }
+            _ => self.spelled(x, at, place),
         }
-        self.spelled(x, at, place)
     }
 
     // What a declaration's head says of its reference: nothing, a type, an annotation.
@@ -678,14 +677,15 @@ impl Machine<'_, '_> {
         match h {
             DeclHead::Plain(_) => Ok(()),
             DeclHead::Typed(_) => self.meets(x, place),
-            DeclHead::Annotated(_) => {
-                let (k, e) = heads::byte_at(self.formula, self.at).ok_or(Stop::Broken)?;
-                if k == 0x4F {
+            DeclHead::Annotated(_) => match heads::byte_at(self.formula, self.at).ok_or(
+                Stop::Broken,
+            )? {
+                (0x4F, e) => {
                     self.placed(e);
-                    return Ok(());
+                    Ok(())
                 }
-                self.spelled(x, place, place)
-            }
+                _ => self.spelled(x, place, place),
+            },
         }
     }
 
@@ -707,7 +707,7 @@ impl Machine<'_, '_> {
         self.claim(h, x, place)
     }
 
-    // n declarations.
+    // n declarations. A loop: of a walk that the closure of `try_for_each` changes a proof knows nothing after it.
     #[tactic(auto, using(crate::specs::Seen::still, crate::proofs::Laws::turns), unfolding(forms::specs::Forms::then))]
     pub fn declare(&mut self, n: u8) -> Result<(), Stop>
         ensures value { walked result self.new ≡ declare_of self.old.formula.now self.old.environment.now n (machine self.old) }
@@ -760,11 +760,9 @@ impl Machine<'_, '_> {
         ensures kept { Kept self.old self.new }
     {
         let p = Parts {
-            left: left.node,
-            right: right.node,
+            left,
+            right,
             place,
-            near: left.place,
-            far: right.place,
             base: self.nodes,
         };
         for item in script.items() {
@@ -782,14 +780,12 @@ pub struct Part {
     pub place: Place,
 }
 
-// What a script is played with: the references and places of the parts, the record's place, and the count of nodes as it begins.
+// What a script is played with: the parts, the record's place, and the count of nodes as it begins.
 #[derive(Clone, Copy)]
 pub struct Parts {
-    pub left: NodeRef,
-    pub right: NodeRef,
+    pub left: Part,
+    pub right: Part,
     pub place: Place,
-    pub near: Place,
-    pub far: Place,
     pub base: u32,
 }
 
@@ -799,12 +795,12 @@ fn chosen(operand: Operand, p: Parts) -> NodeRef
     ensures { result ≡ chosen_of operand p }
 {
     match operand {
-        Operand::Left => p.left,
-        Operand::Right => p.right,
+        Operand::Left => p.left.node,
+        Operand::Right => p.right.node,
         Operand::Own(j) => {
             let base = p.base;
             if base < 65536 {
-                NodeRef(base + j as u32)
+                NodeRef(base + u32::from(j))
             } else {
                 NodeRef(0)
             }
@@ -818,7 +814,7 @@ fn place_of(seat: Seat, p: Parts) -> Place
 {
     match seat {
         Seat::Whole => p.place,
-        Seat::Near => p.near,
-        Seat::Far => p.far,
+        Seat::Near => p.left.place,
+        Seat::Far => p.right.place,
     }
 }

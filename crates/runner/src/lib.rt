@@ -7,8 +7,10 @@ ghost use Rattle.machine.specs.Seen.{machine, Kept};
 ghost use Rattle.memory.specs.Memory.{cleared};
 ghost use Rattle.runner.specs.Answers.{told, called};
 ghost use Rattle.runner.specs.Begin.{entered_of};
+ghost use Rattle.runner.specs.Calls.{refused_call};
 ghost use Rattle.runner.specs.Run.{verdict_of, judged, judge_of, refused_by, fault_of};
 
+use formula::FormError;
 use machine::{Machine, Stop};
 use types::{Fault, Place};
 
@@ -87,7 +89,7 @@ pub fn fits(formula: usize, environment: usize, names: u32, capacity: u32, work:
 
 // ---- the walk and the finish
 
-// The environment's types, by name, into the book.
+// The environment's types, by name, into the book. A loop by name: over `(0..).zip(types)` it did not follow that a turn puts its name's type.
 #[tactic(auto, using(crate::proofs::Laws::turns))]
 pub fn enter_types(walk: &mut Machine, types: &[u32; 256])
     ensures value { machine walk.new ≡ entered_of types.now (machine walk.old) }
@@ -116,12 +118,12 @@ fn conclude(verdict: Verdict, budget: u64, walk: &Machine) -> Answer
 }
 
 // After the tests: problems or no room as they stand; else the typing's entries are written.
-#[tactic(auto, using(machine::specs::Still::tests, crate::specs::Stops::verdict_stops), unfolding(crate::specs::Run::judge_of, forms::specs::Forms::then))]
+#[tactic(auto, using(machine::specs::Still::tests, crate::specs::Stops::verdict_stops, crate::proofs::Laws::judge_clean), unfolding(forms::specs::Forms::then))]
 pub fn judge(walk: &mut Machine, budget: u64) -> Answer
     ensures value { judged result walk.new.output.now ≡ judge_of budget (machine walk.old) }
     ensures kept { Kept walk.old walk.new }
 {
-    if walk.over || walk.bytes != 0 {
+    if !finisher::clean(walk) {
         return conclude(Verdict::Problems, budget, walk);
     }
     finisher::write_answer(walk)?;
@@ -161,5 +163,16 @@ pub fn blame(input: Input, fault: Fault<Place>) -> Refusal
             Input::Formula => Refusal::BadFormula(p),
         },
         Fault::Beyond(p) => Refusal::Beyond(p),
+    }
+}
+
+// The answer where a form is refused: one too long leaves output and work as they were.
+#[tactic(auto, unfolding(crate::specs::Calls::refused_call, crate::specs::Calls::closed))]
+pub fn refuse(input: Input, error: FormError, output: &mut [u8], work: &mut [u32]) -> Answer
+    ensures { called result output.new work.new ≡ refused_call input error output.old work.old }
+{
+    match error {
+        FormError::TooLong => Err(Refusal::Oversized),
+        FormError::At(fault) => close(Err(blame(input, fault)), output, work),
     }
 }

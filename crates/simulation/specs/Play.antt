@@ -89,13 +89,13 @@ Tied ka kp n s = (script_as n ≡ s) × (script_fits ka kp n ≡ true)
 -- the parts by number: references from 0, none; places from 0, the record's
 unfoldable pub part_at : Parts → ℕ → ℕ
 part_at p zero = 0
-part_at p (suc zero) = p.left.0
-part_at p (suc (suc i)) = p.right.0
+part_at p (suc zero) = p.left.node.0
+part_at p (suc (suc i)) = p.right.node.0
 
 unfoldable pub seat_at : Parts → ℕ → ℕ
 seat_at p zero = p.place.0
-seat_at p (suc zero) = p.near.0
-seat_at p (suc (suc i)) = p.far.0
+seat_at p (suc zero) = p.left.place.0
+seat_at p (suc (suc i)) = p.right.place.0
 
 -- for every number below n
 unfoldable pub every : ℕ → (ℕ → Bool) → Bool

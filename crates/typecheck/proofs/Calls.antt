@@ -1,9 +1,8 @@
 -- How the entry's ways add up to one call.
 use Rattle.std.proofs.Common.{ℕ, ◌+◌, ◌-◌, ◌*◌, ◌≤◌, ◌<◌, subst, List, ◌≡◌, refl, sym, ap, ◌∙◌, true, length, take, replicate, get_or}
-use Rattle.types.specs.declared.Place.{Place}
 use Rattle.std.specs.Prelude.{Ok, Err}
-use Rattle.types.specs.declared.Fault.{Fault}
 use Rattle.formula.specs.Parse.{Form}
+use Rattle.formula.specs.declared.FormError.{FormError}
 use Rattle.formula.specs.declared.FormError.TheVariants.{TooLong, At}
 use Rattle.formula.specs.declared.Environment.{Environment}
 use Rattle.formula.specs.EnvParse.{capped, environment_of, Table}
@@ -15,24 +14,20 @@ use Rattle.inference.specs.Infer.{sized, infer_of}
 use Rattle.finisher.specs.Finisher.{most}
 use Rattle.memory.specs.Memory.{cleared}
 use Rattle.runner.specs.declared.Input.TheVariants as In
-use Rattle.runner.specs.declared.Refusal.{Refusal}
-use Rattle.runner.specs.declared.Refusal.TheVariants.{Oversized}
 use Rattle.runner.specs.Answers.{Answer, told, Call, called, call_of}
-use Rattle.runner.specs.Run.{Judged, judged, run_of, judge_of, fault_of}
-use Rattle.runner.specs.Calls.{closed, formula_call, environment_call}
+use Rattle.runner.specs.Run.{Judged, judged, run_of, judge_of}
+use Rattle.runner.specs.Calls.{closed, refused_call, formula_call, environment_call}
 use Rattle.assembly.specs.Entry.{calls_infer}
 
 -- ---- by the formula's form
 module _ (form : Form) (s env types : List ℕ) (cap budget : ℕ) (out work : List ℕ) where
-  pub formula-long : form ≡ Err TooLong → called (Err Oversized) out work ≡ formula_call form s env types cap budget out work
-  unfolding formula_call
-  formula-long e = sym (ap (λ (f : Form). formula_call f s env types cap budget out work) e)
+  refused_formula : (x : FormError) → refused_call In.Formula x out work ≡ formula_call (Err x) s env types cap budget out work
+  unfolding refused_call formula_call
+  refused_formula TooLong = refl
+  refused_formula (At f) = refl
 
-  pub formula-bad : (f : Fault Place) (a : Refusal) (r : Answer) (out' work' : List ℕ) → form ≡ Err (At f) → a ≡ fault_of In.Formula f → called r out' work' ≡ called (Err a) (cleared (told (Err a)).size out) (cleared 0 work)
-      → called r out' work' ≡ formula_call form s env types cap budget out work
-  unfolding formula_call closed
-  formula-bad f a r out' work' e b c =
-      c ∙ ap (λ (x : Refusal). called (Err x) (cleared (told (Err x)).size out) (cleared 0 work)) b ∙ sym (ap (λ (g : Form). formula_call g s env types cap budget out work) e)
+  pub formula-refused : (x : FormError) (r : Answer) (out' work' : List ℕ) → form ≡ Err x → called r out' work' ≡ refused_call In.Formula x out work → called r out' work' ≡ formula_call form s env types cap budget out work
+  formula-refused x r out' work' e c = c ∙ refused_formula x ∙ sym (ap (λ (g : Form). formula_call g s env types cap budget out work) e)
 
   pub formula-good : (a r : Answer) (out₁ work₁ out' work' : List ℕ) → form ≡ Ok tt → judged a out₁ ≡ judge_of budget (run_of s env types (cap * 3) budget (take (cap * 3 + 4096) work) out) → length work₁ ≡ length work
       → called r out' work' ≡ called a (cleared (told a).size out₁) (cleared 0 work₁) → called r out' work' ≡ formula_call form s env types cap budget out work
@@ -57,16 +52,16 @@ module _ (s env : List ℕ) (names cap budget : ℕ) (out work : List ℕ) (t : 
       let f = e ∙ ap (λ (g : Form). environment_call g (form_of (parse_of names s)) s env t.types cap budget out work) form-told in
       f ∙ calls_infer s env t.types names cap budget out work bs be within table-told ok (sym (ap (λ (y : Call). length y.output) f) ∙ l)
 
-  pub infer_long : t.form ≡ Err TooLong → called (Err Oversized) out work ≡ call_of (infer_of s env names cap budget (length out) (length work)) out work
-  unfolding environment_call called
-  infer_long e = infers (called (Err Oversized) out work) (sym (ap (λ (g : Form). environment_call g (form_of (parse_of names s)) s env t.types cap budget out work) e)) refl
+  refused_environment : (x : FormError) → refused_call In.Environment x out work ≡ environment_call (Err x) (form_of (parse_of names s)) s env t.types cap budget out work
+  unfolding refused_call environment_call
+  refused_environment TooLong = refl
+  refused_environment (At f) = refl
 
-  pub infer_bad : (f : Fault Place) (a : Refusal) (r : Answer) (out' work' : List ℕ) → t.form ≡ Err (At f) → a ≡ fault_of In.Environment f → called r out' work' ≡ called (Err a) (cleared (told (Err a)).size out) (cleared 0 work) → length out' ≡ length out
+  pub infer_refused : (x : FormError) (r : Answer) (out' work' : List ℕ) → t.form ≡ Err x → called r out' work' ≡ refused_call In.Environment x out work → length out' ≡ length out
       → called r out' work' ≡ call_of (infer_of s env names cap budget (length out) (length work)) out work
-  unfolding environment_call closed called
-  infer_bad f a r out' work' e b c l =
-      infers (called r out' work')
-      (c ∙ ap (λ (x : Refusal). called (Err x) (cleared (told (Err x)).size out) (cleared 0 work)) b ∙ sym (ap (λ (g : Form). environment_call g (form_of (parse_of names s)) s env t.types cap budget out work) e)) l
+  unfolding called
+  infer_refused x r out' work' e c l =
+      infers (called r out' work') (c ∙ refused_environment x ∙ sym (ap (λ (g : Form). environment_call g (form_of (parse_of names s)) s env t.types cap budget out work) e)) l
 
   pub infer_good : (r : Answer) (out' work' : List ℕ) → t.form ≡ Ok tt → called r out' work' ≡ formula_call (form_of (parse_of names s)) s env t.types cap budget out work → length out' ≡ length out
       → called r out' work' ≡ call_of (infer_of s env names cap budget (length out) (length work)) out work

@@ -10,7 +10,6 @@ ghost use Rattle.inference.specs.Infer.{infer_of};
 ghost use Rattle.runner.specs.Answers.{called, call_of};
 ghost use Rattle.runner.specs.Calls.{formula_call};
 
-use formula::FormError;
 use machine::Machine;
 use runner::{Answer, Input, Refusal};
 
@@ -38,7 +37,7 @@ fn walk(
 }
 
 // Inference over inputs whose sizes are in order and whose environment is well formed.
-// Its parameters are those of `infer`, which is public: a struct of them would be made for this one call.
+// Its parameters are those of `infer`, a public signature, and the types: a struct of them would be filled there and emptied by `Machine::new`.
 fn infer_formula(
     formula: &[u8],
     environment: &[u8],
@@ -53,12 +52,7 @@ fn infer_formula(
     ensures { called result output.new work.new ≡ formula_call (form_of (parse_of names formula.now)) formula.now environment.now types.now capacity budget output.old work.old }
 {
     match formula::check_formula(formula, names) {
-        Err(FormError::TooLong) => Err(Refusal::Oversized),
-        Err(FormError::At(fault)) => runner::close(
-            Err(runner::blame(Input::Formula, fault)),
-            output,
-            work,
-        ),
+        Err(error) => runner::refuse(Input::Formula, error, output, work),
         Ok(()) => {
             let answer = walk(
                 formula,
@@ -99,14 +93,10 @@ pub fn infer(
         return Err(Refusal::Oversized);
     }
     let tested = formula::check_environment(environment, names);
+    // bound first: a match on a field proves nothing of it
     let form = tested.form;
     match form {
-        Err(FormError::TooLong) => Err(Refusal::Oversized),
-        Err(FormError::At(fault)) => runner::close(
-            Err(runner::blame(Input::Environment, fault)),
-            output,
-            work,
-        ),
+        Err(error) => runner::refuse(Input::Environment, error, output, work),
         Ok(()) => {
             let types = tested.types;
             infer_formula(

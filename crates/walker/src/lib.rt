@@ -36,7 +36,8 @@ fn next(mode: Mode, y: NodeRef, t: NodeRef) -> NodeRef
     }
 }
 
-// Where a script is played with fewer than two parts, what stands for the other.
+// Where a script is played with fewer than two parts, what stands for the other. A number and no Option: `parts_of` has a reference for each part, and
+// what a script that asks for a missing one gets is told by it.
 fn no_part(place: Place) -> Part
     ensures { result ≡ record { node = record { 0 = 0 }; place = place } }
 {
@@ -46,7 +47,7 @@ fn no_part(place: Place) -> Part
     }
 }
 
-// ---- the cycle: expressions and predicates
+// ---- the cycle: expressions and predicates. Its rows, `each` and `preds`, are loops: a closure would call back into the cycle and need clauses of its own.
 
 // An expression, with what stands below it.
 #[tactic(auto, using(machine::specs::Seen::still, machine::specs::Still::tests, crate::specs::StillWalk::still, crate::proofs::Laws::expr_is), unfolding(crate::specs::Walk::expr_by, machine::specs::Machine::stopped_of, forms::specs::Forms::then))]
@@ -342,7 +343,7 @@ fn pbody(walk: &mut Machine, left: u32, head: PredHead) -> Result<(), Stop>
     }
 }
 
-// 26, a quantified predicate.
+// 26, a quantified predicate. Beside `quant`: what the two have in common is the declarations' scope, and what is walked in it calls back into the cycle.
 #[tactic(auto, using(machine::specs::Seen::still, machine::specs::Still::tests, crate::specs::StillWalk::still), unfolding(crate::specs::Walk::pred_quant_by, forms::specs::Forms::then))]
 #[cycle(walking)]
 fn pquant(walk: &mut Machine, left: u32, n: u8, e: Place) -> Result<(), Stop>
@@ -370,7 +371,7 @@ fn preds(walk: &mut Machine, left: u32, n: u16) -> Result<(), Stop>
     Ok(())
 }
 
-// ---- assignments, and a whole formula
+// ---- assignments, and a whole formula. Rows are loops: of a walk that the closure of `try_for_each` changes a proof knows nothing after it.
 
 // n pairs: each value against its target, at the value.
 #[tactic(auto, using(machine::specs::Seen::still, machine::specs::Still::tests, crate::specs::StillWalk::still, machine::proofs::Laws::turns), unfolding(crate::specs::Root::pair_by, forms::specs::Forms::then))]
