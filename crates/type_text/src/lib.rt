@@ -13,9 +13,6 @@ use reader::{Cursor, Reader};
 use types::Fault;
 use writer::{Side, Writer};
 
-// The depth that a type read may have: a reader counts it in a byte.
-const MAX_DEPTH: u8 = types::MAX_DEPTH as u8;
-
 // Why an entry wrote nothing. Bad: the name table, or a position past the page's end.
 #[derive(Clone, Copy, PartialEq, Eq)]
 pub enum Refusal {
@@ -73,7 +70,7 @@ pub fn read(text: &[u8], table: &[u8], page: &mut [u8]) -> Result<usize, Refusal
     if e != text.len() {
         return Err(Refusal::At(Fault::Malformed(e)));
     }
-    if d > MAX_DEPTH {
+    if d > types::MAX_DEPTH {
         return Err(Refusal::At(Fault::Beyond(0)));
     }
     if room.is_none() {

@@ -19,12 +19,12 @@ use types::{Atom, Fault};
 #[derive(Clone, Copy)]
 pub struct Cursor {
     pub at: usize,
-    pub left: u8,
+    pub left: u32,
 }
 
 impl Cursor {
     // The most brackets that may be open at an operand.
-    pub const MAX_DEPTH: u8 = 32;
+    pub const MAX_DEPTH: u32 = 32;
 
     // At a text's start.
     pub fn new() -> Self
@@ -37,10 +37,10 @@ impl Cursor {
     }
 }
 
-fn deeper(d: u8) -> u8
+fn deeper(d: u32) -> u32
     ensures { result ≡ deeper_of d }
 {
-    d.saturating_add(1).min(65)
+    d.saturating_add(1).min(types::LEVELS)
 }
 
 #[tactic(auto, unfolding(types::specs::Ty::spell_atom, types::specs::Code::atom_is))]
@@ -55,9 +55,13 @@ fn atom_record_width(a: Atom) -> usize
 
 // ---- the second pass
 
+// The kinds are the format's (docs/FORMAT.md), as `types::head_at` reads them.
+
 const KIND_BOOL: [u8; 1] = [0x40];
 
 const KIND_INTEGER: [u8; 1] = [0x41];
+
+const KIND_GIVEN: u8 = 0x42;
 
 const KIND_POWER: [u8; 1] = [0x43];
 
@@ -83,7 +87,7 @@ fn lay_atom(a: Atom, page: &mut [u8]) -> usize
         Atom::Integer => copy(page, 0, &KIND_INTEGER),
         Atom::Given(name) => {
             let [low, high, ..] = name.0.to_le_bytes();
-            copy(page, 0, &[0x42, low, high])
+            copy(page, 0, &[KIND_GIVEN, low, high])
         }
     }
 }
@@ -119,7 +123,7 @@ impl Reader<'_> {
         &self,
         c: Cursor,
         room: Option<usize>,
-    ) -> Result<(usize, u8, Option<usize>), Fault<usize>>
+    ) -> Result<(usize, u32, Option<usize>), Fault<usize>>
         ensures { result ≡ scanned_of room (operand_of c.left (names self.now.table.now) self.now.text.now c.at) }
     {
         if c.left == 0 {
@@ -153,7 +157,7 @@ impl Reader<'_> {
         &self,
         c: Cursor,
         room: Option<usize>,
-    ) -> Result<(usize, u8, Option<usize>), Fault<usize>>
+    ) -> Result<(usize, u32, Option<usize>), Fault<usize>>
         ensures { result ≡ scanned_of room (product_of c.left (names self.now.table.now) self.now.text.now c.at) }
     {
         let (mut e, mut d, mut r) = self.scan_operand(c, room)?;
