@@ -86,7 +86,7 @@ pub fn count_names(table: &[u8]) -> u32
 fn name_is_good(table: &[u8], i: u32, word: &[u8]) -> bool
     ensures { result ≡ good_name (names table.now) i word.now }
 {
-    is_word(word) && word != BOOLEAN.as_slice() && find_name(table, word).is_some_and(|k| k.0 == i)
+    is_word(word) && word != BOOLEAN.as_slice() && find_name(table, word) == Some(Name(i))
 }
 
 // A table of at most 256 good names in at most 16,384 bytes.
@@ -96,8 +96,7 @@ pub fn table_is_good(table: &[u8]) -> bool
     table.len() <= types::MAX_BYTES
         && Records(table).enumerate().all(|(i, (kind, name))| {
             i < types::MAX_NAMES as usize
-                && kind > 0x80
-                && kind <= 0xC0
+                && (0x81..=0xC0).contains(&kind)
                 && name.len() == usize::from(kind) - 128
                 && name_is_good(table, i as u32, name)
         })

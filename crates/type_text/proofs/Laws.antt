@@ -8,12 +8,12 @@ use Rattle.type_grammar.specs.contracts.Token.{the_type}
 use Rattle.type_grammar.specs.declared.Token.{Token}
 use Rattle.type_grammar.specs.declared.Token.TheVariants.{Leaf, Power, Open, Close, Times}
 use Rattle.type_grammar.specs.Parse.{operand_by, times_on}
-use Rattle.type_text.specs.Scan.{Scanned, scan_on}
+use Rattle.type_text.specs.Scan.{Scan, found, scan_on}
 
 not_times : OneOf (0 ∷ 1 ∷ 2 ∷ 3 ∷ []) 4 → ⊥
 not_times = ⊎_elim (λ h. omega arith) (⊎_elim (λ h. omega arith) (⊎_elim (λ h. omega arith) (λ h. omega arith)))
 
-scan_by : (e d : ℕ) (r : Option ℕ) (k : Token) → OneOf (0 ∷ 1 ∷ 2 ∷ 3 ∷ []) (tag_of the_type k) → (next : ℕ → Scanned) → scan_on next e d r (Some k) ≡ Ok (e, d, r)
+scan_by : (e d : ℕ) (r : Option ℕ) (k : Token) → OneOf (0 ∷ 1 ∷ 2 ∷ 3 ∷ []) (tag_of the_type k) → (next : ℕ → Scan) → scan_on next e d r (Some k) ≡ Ok (found e d r)
 unfolding scan_on
 scan_by e d r (Leaf a q) h next = refl
 scan_by e d r (Power q) h next = refl
@@ -21,7 +21,7 @@ scan_by e d r (Open q) h next = refl
 scan_by e d r (Close q) h next = refl
 scan_by e d r (Times q) h next = absurd (not_times h)
 
-pub times_else : (e d : ℕ) (r : Option ℕ) (o : Option Token) (k : Token) → OneOf (0 ∷ 1 ∷ 2 ∷ 3 ∷ []) (tag_of the_type k) → o ≡ Some k → (next : ℕ → Scanned) → scan_on next e d r o ≡ Ok (e, d, r)
+pub times_else : (e d : ℕ) (r : Option ℕ) (o : Option Token) (k : Token) → OneOf (0 ∷ 1 ∷ 2 ∷ 3 ∷ []) (tag_of the_type k) → o ≡ Some k → (next : ℕ → Scan) → scan_on next e d r o ≡ Ok (found e d r)
 times_else e d r o k h q next = ap (scan_on next e d r) q ∙ scan_by e d r k h next
 
 times_by : (e : ℕ) (k : Token) → OneOf (0 ∷ 1 ∷ 2 ∷ 3 ∷ []) (tag_of the_type k) → (more : ℕ → TypeAt) (u : Ty) → times_on more u e (Some k) ≡ got u e

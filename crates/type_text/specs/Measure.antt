@@ -19,6 +19,7 @@ use Rattle.name_table.specs.Table.{boolean, names, Named}
 use Rattle.type_grammar.specs.Text.{integer, power_open, bracket_open, bracket_close, times, text_atom, bracketed, text}
 use Rattle.types.specs.declared.Fault.{Fault}
 use Rattle.types.specs.declared.Fault.TheVariants as F
+use Rattle.type_text.specs.declared.writer.Measured.{Measured}
 use Rattle.type_text.specs.declared.writer.Side.{Side}
 use Rattle.type_text.specs.declared.writer.Side.TheVariants.{Right, Plain}
 use Rattle.type_text.specs.Page.{spend_of, spend_twice}
@@ -33,12 +34,15 @@ abbrev pub signs_of : Side → ℕ
 signs_of Right = 4
 signs_of Plain = 2
 
-abbrev pub Measured : Type 0
-Measured = Result (ℕ × Option ℕ) (Fault ℕ)
+abbrev pub Measure : Type 0
+Measure = Result Measured (Fault ℕ)
+
+abbrev pub measured_at : ℕ → Option ℕ → Measured
+measured_at e r = record { end = e; room = r }
 
 -- of a record: where it ends and the room that its text leaves
-unfoldable pub measured_of : List (List ℕ) → Side → Option ℕ → TypeAt → Measured
-measured_of ns side room (got t e) = Ok (e, spend_of room (length (text_in ns side t)))
+unfoldable pub measured_of : List (List ℕ) → Side → Option ℕ → TypeAt → Measure
+measured_of ns side room (got t e) = Ok (measured_at e (spend_of room (length (text_in ns side t))))
 measured_of ns side room (malformed p) = Err (F.Malformed p)
 measured_of ns side room (deep p) = Err (F.Beyond p)
 
@@ -97,7 +101,7 @@ width_product ns Right a b =
     text_in_product' a b = in_plain ns (prod a b) ∙ text_in-product ns a b
 width_product ns Plain a b = ap length (text_in-product ns a b) ∙ omega (arith, length-append (text ns a) (times ++ text_in ns Right b))
 
-module _ (ns : List (List ℕ)) (side : Side) (room : Option ℕ) (m : Measured) where
+module _ (ns : List (List ℕ)) (side : Side) (room : Option ℕ) (m : Measure) where
   pub measured_as : (x y : TypeAt) → x ≡ y → m ≡ measured_of ns side room y → m ≡ measured_of ns side room x
   measured_as x y e h = h ∙ ap (measured_of ns side room) (sym e)
 
@@ -112,16 +116,16 @@ pub measured_deep : (ns : List (List ℕ)) (side : Side) (room : Option ℕ) (p 
 unfolding measured_of
 measured_deep ns side room p = refl
 
-pub measured_atom : (ns : List (List ℕ)) (side : Side) (room : Option ℕ) (a : Atom) (e w : ℕ) (more : Option ℕ) → w ≡ length (text_atom ns (atom_is a)) → more ≡ spend_of room w → Ok (e, more) ≡ measured_of ns side room (got (base (atom_is a)) e)
+pub measured_atom : (ns : List (List ℕ)) (side : Side) (room : Option ℕ) (a : Atom) (e w : ℕ) (more : Option ℕ) → w ≡ length (text_atom ns (atom_is a)) → more ≡ spend_of room w → Ok (measured_at e more) ≡ measured_of ns side room (got (base (atom_is a)) e)
 unfolding measured_of
-measured_atom ns side room a e w more h g = ap (λ (z : Option ℕ). Ok (e, z)) (g ∙ ap (spend_of room) (h ∙ ap length (sym (text_in-atom ns side (atom_is a)))))
+measured_atom ns side room a e w more h g = ap (λ (z : Option ℕ). Ok (measured_at e z)) (g ∙ ap (spend_of room) (h ∙ ap length (sym (text_in-atom ns side (atom_is a)))))
 
-pub measured_power : (ns : List (List ℕ)) (side : Side) (room more : Option ℕ) (m : Measured) (x : TypeAt) → more ≡ spend_of room 5 → m ≡ measured_of ns Plain more x → m ≡ measured_of ns side room (and_then x (λ t f. got (pow t) f))
+pub measured_power : (ns : List (List ℕ)) (side : Side) (room more : Option ℕ) (m : Measure) (x : TypeAt) → more ≡ spend_of room 5 → m ≡ measured_of ns Plain more x → m ≡ measured_of ns side room (and_then x (λ t f. got (pow t) f))
 unfolding measured_of and_then
 measured_power ns side room more m (malformed p) h g = g
 measured_power ns side room more m (deep p) h g = g
 measured_power ns side room more m (got t f) h g =
-    g ∙ ap (λ (z : Option ℕ). Ok (f, z)) (ap (λ (z : Option ℕ). spend_of z (length (text_in ns Plain t))) h ∙ spend_twice room 5 (length (text_in ns Plain t)) ∙ ap (spend_of room) w)
+    g ∙ ap (λ (z : Option ℕ). Ok (measured_at f z)) (ap (λ (z : Option ℕ). spend_of z (length (text_in ns Plain t))) h ∙ spend_twice room 5 (length (text_in ns Plain t)) ∙ ap (spend_of room) w)
   where
     w : 5 + length (text_in ns Plain t) ≡ length (text_in ns side (pow t))
     w = omega (arith, ap length (text_in-power ns side t), ap length (in_plain ns t), length-append (text ns t) bracket_close)
@@ -132,29 +136,27 @@ left-stop ns side room more (malformed q) y k e = e
 left-stop ns side room more (deep q) y k e = e
 left-stop ns side room more (got t f) y k e = absurd (let z : ◌≡◌ {A = ℕ} 0 1 = cc in omega arith)
 
-right_end : (ns : List (List ℕ)) (side : Side) (room more rest : Option ℕ) (a : Ty) (x : TypeAt) (n : ℕ) (l : Measured) → n ≡ signs_of side → more ≡ spend_of room n → rest ≡ spend_of more (length (text_in ns Plain a)) → l ≡ measured_of ns Right rest x → l ≡ measured_of ns side room (and_then x (λ b e. got (prod a b) e))
+right_end : (ns : List (List ℕ)) (side : Side) (room more rest : Option ℕ) (a : Ty) (x : TypeAt) (n : ℕ) (l : Measure) → n ≡ signs_of side → more ≡ spend_of room n → rest ≡ spend_of more (length (text_in ns Plain a)) → l ≡ measured_of ns Right rest x → l ≡ measured_of ns side room (and_then x (λ b e. got (prod a b) e))
 unfolding measured_of and_then
 right_end ns side room more rest a (malformed p) n l en h g e = e
 right_end ns side room more rest a (deep p) n l en h g e = e
 right_end ns side room more rest a (got b f) n l en h g e =
-    e ∙ ap (λ (z : Option ℕ). Ok (f, z)) (ap (λ (z : Option ℕ). spend_of z (length (text_in ns Right b))) (g ∙ ap (λ (z : Option ℕ). spend_of z (length (text_in ns Plain a))) h ∙ spend_twice room n _) ∙ spend_twice room _ _ ∙ ap (spend_of room) w)
+    e ∙ ap (λ (z : Option ℕ). Ok (measured_at f z)) (ap (λ (z : Option ℕ). spend_of z (length (text_in ns Right b))) (g ∙ ap (λ (z : Option ℕ). spend_of z (length (text_in ns Plain a))) h ∙ spend_twice room n _) ∙ spend_twice room _ _ ∙ ap (spend_of room) w)
   where
     w : n + length (text_in ns Plain a) + length (text_in ns Right b) ≡ length (text_in ns side (prod a b))
     w = omega (arith, en, width_product ns side a b, ap length (in_plain ns a))
 
-right_measured : (ns : List (List ℕ)) (side : Side) (room more : Option ℕ) (x : TypeAt) (y : ℕ → TypeAt) (n : ℕ) → n ≡ signs_of side → more ≡ spend_of room n → (f : ℕ) (rest : Option ℕ) (l : Measured) → Ok (f, rest) ≡ measured_of ns Plain more x → l ≡ measured_of ns Right rest (y f) → l ≡ measured_of ns side room (and_then x (λ a f. and_then (y f) (λ b e. got (prod a b) e)))
+right_measured : (ns : List (List ℕ)) (side : Side) (room more : Option ℕ) (x : TypeAt) (y : ℕ → TypeAt) (n : ℕ) → n ≡ signs_of side → more ≡ spend_of room n → (o : Measured) (l : Measure) → Ok o ≡ measured_of ns Plain more x → l ≡ measured_of ns Right o.room (y o.end) → l ≡ measured_of ns side room (and_then x (λ a f. and_then (y f) (λ b e. got (prod a b) e)))
 unfolding measured_of and_then
-right_measured ns side room more (malformed q) y n en h f rest l e k = absurd (let z : ◌≡◌ {A = ℕ} 0 1 = cc in omega arith)
-right_measured ns side room more (deep q) y n en h f rest l e k = absurd (let z : ◌≡◌ {A = ℕ} 0 1 = cc in omega arith)
-right_measured ns side room more (got a f') y n en h f rest l e k =
-    let o : (f, rest) ≡ (f', spend_of more (length (text_in ns Plain a))) = cc in
-    let ef : f ≡ f' = ap (λ (x : ℕ × Option ℕ). x.0) o in
-    let er : rest ≡ spend_of more (length (text_in ns Plain a)) = ap (λ (x : ℕ × Option ℕ). x.1) o in
-    right_end ns side room more rest a (y f') n l en h er (k ∙ ap (λ (z : ℕ). measured_of ns Right rest (y z)) ef)
+right_measured ns side room more (malformed q) y n en h o l e k = absurd (let z : ◌≡◌ {A = ℕ} 0 1 = cc in omega arith)
+right_measured ns side room more (deep q) y n en h o l e k = absurd (let z : ◌≡◌ {A = ℕ} 0 1 = cc in omega arith)
+right_measured ns side room more (got a f) y n en h o l e k =
+    let is : o ≡ measured_at f (spend_of more (length (text_in ns Plain a))) = cc in
+    right_end ns side room more o.room a (y f) n l en h (ap (λ (x : Measured). x.room) is) (k ∙ ap (λ (x : Measured). measured_of ns Right o.room (y x.end)) is)
 
-module _ (ns : List (List ℕ)) (side : Side) (room more : Option ℕ) (m : Measured) (x : TypeAt) (n : ℕ) (en : n ≡ signs_of side) (h : more ≡ spend_of room n) (g : m ≡ measured_of ns Plain more x) (y : ℕ → TypeAt) where
+module _ (ns : List (List ℕ)) (side : Side) (room more : Option ℕ) (m : Measure) (x : TypeAt) (n : ℕ) (en : n ≡ signs_of side) (h : more ≡ spend_of room n) (g : m ≡ measured_of ns Plain more x) (y : ℕ → TypeAt) where
   pub measured_left-stop : (k : Fault ℕ) → m ≡ Err k → Err k ≡ measured_of ns side room (and_then x (λ a f. and_then (y f) (λ b e. got (prod a b) e)))
   measured_left-stop k e = left-stop ns side room more x y k (sym e ∙ g)
 
-  pub measured_product : (f : ℕ) (rest : Option ℕ) (l : Measured) → m ≡ Ok (f, rest) → l ≡ measured_of ns Right rest (y f) → l ≡ measured_of ns side room (and_then x (λ a f. and_then (y f) (λ b e. got (prod a b) e)))
-  measured_product f rest l e k = right_measured ns side room more x y n en h f rest l (sym e ∙ g) k
+  pub measured_product : (o : Measured) (l : Measure) → m ≡ Ok o → l ≡ measured_of ns Right o.room (y o.end) → l ≡ measured_of ns side room (and_then x (λ a f. and_then (y f) (λ b e. got (prod a b) e)))
+  measured_product o l e k = right_measured ns side room more x y n en h o l (sym e ∙ g) k

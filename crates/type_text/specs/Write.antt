@@ -9,12 +9,13 @@ use Rattle.name_table.specs.Table.{names, good_table}
 use Rattle.type_grammar.specs.Text.{text}
 use Rattle.types.specs.declared.Fault.{Fault}
 use Rattle.types.specs.declared.Fault.TheVariants as F
+use Rattle.type_text.specs.declared.writer.Measured.{Measured}
 use Rattle.type_text.specs.declared.writer.Side.{Side}
 use Rattle.type_text.specs.declared.writer.Side.TheVariants.{Plain}
 use Rattle.type_text.specs.declared.Refusal.TheVariants.{Bad, At, NoRoom}
 use Rattle.std.specs.Option.{is_some}
 use Rattle.type_text.specs.Page.{spend_of, spent-over, spent-left, none_is, some_is}
-use Rattle.type_text.specs.Measure.{Measured, text_in, in_plain, measured_of}
+use Rattle.type_text.specs.Measure.{Measure, text_in, in_plain, measured_at, measured_of}
 use Rattle.type_text.specs.Put.{Ready, Written, lent-end}
 use Rattle.type_text.specs.Answer.{Answer, written_by, write_answer, written_page, write_page}
 
@@ -25,13 +26,13 @@ fault-page ns page pos (F.Malformed p) x = refl
 fault-page ns page pos (F.Beyond p) x = refl
 
 -- what measuring found stands there
-measured_type : (ns : List (List ℕ)) (room : Option ℕ) (x : TypeAt) (e : ℕ) (more : Option ℕ) → Ok (e, more) ≡ measured_of ns Plain room x → (t : Ty) × (x ≡ got t e) × (more ≡ spend_of room (length (text ns t)))
+measured_type : (ns : List (List ℕ)) (room : Option ℕ) (x : TypeAt) (o : Measured) → Ok o ≡ measured_of ns Plain room x → (t : Ty) × (x ≡ got t o.end) × (o.room ≡ spend_of room (length (text ns t)))
 unfolding measured_of
-measured_type ns room (malformed p) e more h = absurd (let z : ◌≡◌ {A = ℕ} 0 1 = cc in omega arith)
-measured_type ns room (deep p) e more h = absurd (let z : ◌≡◌ {A = ℕ} 0 1 = cc in omega arith)
-measured_type ns room (got t f) e more h =
-    let o : (e, more) ≡ (f, spend_of room (length (text_in ns Plain t))) = cc in
-    (t, ap (got t) (ap (λ (x : ℕ × Option ℕ). x.0) (sym o)), ap (λ (x : ℕ × Option ℕ). x.1) o ∙ ap (λ (x : List ℕ). spend_of room (length x)) (sym (in_plain ns t)))
+measured_type ns room (malformed p) o h = absurd (let z : ◌≡◌ {A = ℕ} 0 1 = cc in omega arith)
+measured_type ns room (deep p) o h = absurd (let z : ◌≡◌ {A = ℕ} 0 1 = cc in omega arith)
+measured_type ns room (got t f) o h =
+    let is : o ≡ measured_at f (spend_of room (length (text_in ns Plain t))) = cc in
+    (t, ap (λ (x : Measured). got t x.end) (sym is), ap (λ (x : Measured). x.room) is ∙ ap (λ (x : List ℕ). spend_of room (length x)) (sym (in_plain ns t)))
 
 -- a fault that it found is the answer
 measured_fault : (ns : List (List ℕ)) (side : Side) (room : Option ℕ) (n left : ℕ) (x : TypeAt) (f : Fault ℕ) → Err f ≡ measured_of ns side room x → Err (At f) ≡ written_by ns n left x
@@ -56,7 +57,7 @@ module _ (r tab page : List ℕ) (pos : ℕ) where
       unfolding write_answer written_page
       write_position h = ends (Err Bad) page (sym (rw (sym eg ∙ not-false g hg, lt-leb pos (length page) h))) refl
 
-      module _ (hp : pos ≤ length page) (count : ℕ) (ec : count ≡ length (names tab)) (m : Measured) (em : m ≡ measured_of (names tab) Plain (Some (length page - pos)) (type_at 65 count r 0)) where
+      module _ (hp : pos ≤ length page) (count : ℕ) (ec : count ≡ length (names tab)) (m : Measure) (em : m ≡ measured_of (names tab) Plain (Some (length page - pos)) (type_at 65 count r 0)) where
         at_count : type_at 65 count r 0 ≡ type_at 65 (length (names tab)) r 0
         at_count = ap (λ (n : ℕ). type_at 65 n r 0) ec
 
@@ -72,29 +73,29 @@ module _ (r tab page : List ℕ) (pos : ℕ) where
             ends a page (ea ∙ measured_fault (names tab) Plain (Some (length page - pos)) (length r) (length page - pos) (type_at 65 (length (names tab)) r 0) f (sym h ∙ measured) ∙ sym answer-is)
             (rw ea (fault-page (names tab) page pos f (type_at 65 (length (names tab)) r 0)))
 
-        module _ (e : ℕ) (more : Option ℕ) (h : m ≡ Ok (e, more)) where
-          stands : (t : Ty) × (type_at 65 (length (names tab)) r 0 ≡ got t e) × (more ≡ spend_of (Some (length page - pos)) (length (text (names tab) t)))
-          stands = measured_type (names tab) (Some (length page - pos)) (type_at 65 (length (names tab)) r 0) e more (sym h ∙ measured)
+        module _ (x : Measured) (h : m ≡ Ok x) where
+          stands : (t : Ty) × (type_at 65 (length (names tab)) r 0 ≡ got t x.end) × (x.room ≡ spend_of (Some (length page - pos)) (length (text (names tab) t)))
+          stands = measured_type (names tab) (Some (length page - pos)) (type_at 65 (length (names tab)) r 0) x (sym h ∙ measured)
 
-          pub write_left-over : (e ≡ length r → ⊥) → (Err (At (F.Malformed e)) ≡ write_answer r tab page pos) × (page ≡ write_page r tab page pos)
+          pub write_left-over : (x.end ≡ length r → ⊥) → (Err (At (F.Malformed x.end)) ≡ write_answer r tab page pos) × (page ≡ write_page r tab page pos)
           unfolding written_page written_by
-          write_left-over n = ends (Err (At (F.Malformed e))) page (sym (answer-is ∙ rw (stands.1, ne_eqb e (length r) n))) refl
+          write_left-over n = ends (Err (At (F.Malformed x.end))) page (sym (answer-is ∙ rw (stands.1, ne_eqb x.end (length r) n))) refl
 
-          module _ (he : e ≡ length r) where
-            pub write_no_room : is_some more ≡ false → (Err NoRoom ≡ write_answer r tab page pos) × (page ≡ write_page r tab page pos)
+          module _ (he : x.end ≡ length r) where
+            pub write_no_room : is_some x.room ≡ false → (Err NoRoom ≡ write_answer r tab page pos) × (page ≡ write_page r tab page pos)
             unfolding written_page written_by
             write_no_room o =
-                ends (Err NoRoom) page (sym (answer-is ∙ rw (stands.1, eq-eqb e (length r) he, spent-over _ _ (sym (none_is more o) ∙ stands.2)))) refl
+                ends (Err NoRoom) page (sym (answer-is ∙ rw (stands.1, eq-eqb x.end (length r) he, spent-over _ _ (sym (none_is x.room o) ∙ stands.2)))) refl
 
-            module _ (o : is_some more ≡ true) where
+            module _ (o : is_some x.room ≡ true) where
               room : leb (length (text (names tab) stands.0)) (length page - pos) ≡ true
-              room = let k = some_is more o in spent-left _ _ k.0 (sym k.1 ∙ stands.2)
+              room = let k = some_is x.room o in spent-left _ _ k.0 (sym k.1 ∙ stands.2)
 
               pub write_ready : Ready (names tab) count r 0 65 Plain pos (length page)
               write_ready =
                   record {
                     type = stands.0;
-                    end = e;
+                    end = x.end;
                     stands = at_count ∙ stands.1;
                     fits = omega (arith, leb-true (length (text (names tab) stands.0)) (length page - pos) room, ap length (in_plain (names tab) stands.0));
                   }
@@ -102,5 +103,5 @@ module _ (r tab page : List ℕ) (pos : ℕ) where
               pub write_done : (part : List ℕ) (f n : ℕ) → Written (names tab) count r 0 65 Plain 0 (take (length page - pos) (drop pos page)) part f n → (Ok n ≡ write_answer r tab page pos) × (take pos page ++ (part ++ drop (length page - pos) (drop pos page)) ≡ write_page r tab page pos)
               unfolding written_page written_by Written text_in
               write_done part f n w =
-                  let s = (lent-end page write_ready part f n w stands.0 e (at_count ∙ stands.1)).1 in
-                  ends (Ok n) _ (sym (answer-is ∙ rw (stands.1, eq-eqb e (length r) he, room, ← s.count))) (s.page ∙ sym (rw stands.1))
+                  let s = (lent-end page write_ready part f n w stands.0 x.end (at_count ∙ stands.1)).1 in
+                  ends (Ok n) _ (sym (answer-is ∙ rw (stands.1, eq-eqb x.end (length r) he, room, ← s.count))) (s.page ∙ sym (rw stands.1))

@@ -13,9 +13,6 @@ use reader::{Cursor, Reader};
 use types::Fault;
 use writer::{Side, Writer};
 
-// The depth that a type read may have: a reader counts it in a byte.
-const MAX_DEPTH: u8 = types::MAX_DEPTH as u8;
-
 // Why an entry wrote nothing. Bad: the name table, or a position past the page's end.
 #[derive(Clone, Copy, PartialEq, Eq)]
 pub enum Refusal {
@@ -48,11 +45,11 @@ pub fn write(bytes: &[u8], table: &[u8], page: &mut [u8], position: usize) -> Re
         table,
         count: name_table::count_names(table),
     };
-    let (e, room) = writer.measure(0, types::LEVELS, Side::Plain, Some(page.len() - position))?;
-    if e != bytes.len() {
-        return Err(Refusal::At(Fault::Malformed(e)));
+    let measured = writer.measure(0, types::LEVELS, Side::Plain, Some(page.len() - position))?;
+    if measured.end != bytes.len() {
+        return Err(Refusal::At(Fault::Malformed(measured.end)));
     }
-    if room.is_none() {
+    if measured.room.is_none() {
         return Err(Refusal::NoRoom);
     }
     let put = writer.put(0, types::LEVELS, Side::Plain, &mut page[position..]);
@@ -69,14 +66,14 @@ pub fn read(text: &[u8], table: &[u8], page: &mut [u8]) -> Result<usize, Refusal
     }
     let reader = Reader { text, table };
     let c = Cursor::new();
-    let (e, d, room) = reader.scan_product(c, Some(page.len()))?;
-    if e != text.len() {
-        return Err(Refusal::At(Fault::Malformed(e)));
+    let found = reader.scan_product(c, Some(page.len()))?;
+    if found.end != text.len() {
+        return Err(Refusal::At(Fault::Malformed(found.end)));
     }
-    if d > MAX_DEPTH {
+    if found.depth > types::MAX_DEPTH {
         return Err(Refusal::At(Fault::Beyond(0)));
     }
-    if room.is_none() {
+    if found.room.is_none() {
         return Err(Refusal::NoRoom);
     }
     let laid = reader.lay_product(c, page);

@@ -19,12 +19,12 @@ use types::{Atom, Fault};
 #[derive(Clone, Copy)]
 pub struct Cursor {
     pub at: usize,
-    pub left: u8,
+    pub left: u32,
 }
 
 impl Cursor {
     // The most brackets that may be open at an operand.
-    pub const MAX_DEPTH: u8 = 32;
+    pub const MAX_DEPTH: u32 = 32;
 
     // At a text's start.
     pub fn new() -> Self
@@ -37,10 +37,18 @@ impl Cursor {
     }
 }
 
-fn deeper(d: u8) -> u8
+// What is found of a type: the offset after its text, its depth (65 stands for any more) and the room that its record leaves.
+#[derive(Clone, Copy)]
+pub struct Scanned {
+    pub end: usize,
+    pub depth: u32,
+    pub room: Option<usize>,
+}
+
+fn deeper(d: u32) -> u32
     ensures { result ≡ deeper_of d }
 {
-    d.saturating_add(1).min(65)
+    d.saturating_add(1).min(types::LEVELS)
 }
 
 #[tactic(auto, unfolding(types::specs::Ty::spell_atom, types::specs::Code::atom_is))]
@@ -55,9 +63,13 @@ fn atom_record_width(a: Atom) -> usize
 
 // ---- the second pass
 
+// The kinds are the format's (docs/FORMAT.md), as `types::head_at` reads them.
+
 const KIND_BOOL: [u8; 1] = [0x40];
 
 const KIND_INTEGER: [u8; 1] = [0x41];
+
+const KIND_GIVEN: u8 = 0x42;
 
 const KIND_POWER: [u8; 1] = [0x43];
 
@@ -83,7 +95,7 @@ fn lay_atom(a: Atom, page: &mut [u8]) -> usize
         Atom::Integer => copy(page, 0, &KIND_INTEGER),
         Atom::Given(name) => {
             let [low, high, ..] = name.0.to_le_bytes();
-            copy(page, 0, &[0x42, low, high])
+            copy(page, 0, &[KIND_GIVEN, low, high])
         }
     }
 }
@@ -113,35 +125,42 @@ impl Reader<'_> {
         }
     }
 
-    // The offset after an operand's text, the type's depth (65 stands for any more) and the room that its record leaves; or the first fault.
+    // What is found of an operand's type; or the first fault.
     #[cycle(scanning)]
-    fn scan_operand(
-        &self,
-        c: Cursor,
-        room: Option<usize>,
-    ) -> Result<(usize, u8, Option<usize>), Fault<usize>>
+    fn scan_operand(&self, c: Cursor, room: Option<usize>) -> Result<Scanned, Fault<usize>>
         ensures { result ≡ scanned_of room (operand_of c.left (names self.now.table.now) self.now.text.now c.at) }
     {
         if c.left == 0 {
             return Err(Fault::Beyond(c.at));
         }
         match self.token(c.at) {
-            Some(Token::Leaf(a, e)) => Ok((e, 0, spend(room, atom_record_width(a)))),
+            Some(Token::Leaf(a, e)) => Ok(Scanned {
+                end: e,
+                depth: 0,
+                room: spend(room, atom_record_width(a)),
+            }),
             Some(Token::Power(q)) => {
                 let inside = Cursor {
                     at: q,
                     left: c.left - 1,
                 };
-                let (e, d, r) = self.scan_product(inside, spend(room, 1))?;
-                Ok((self.close(e)?, deeper(d), r))
+                let found = self.scan_product(inside, spend(room, 1))?;
+                Ok(Scanned {
+                    end: self.close(found.end)?,
+                    depth: deeper(found.depth),
+                    room: found.room,
+                })
             }
             Some(Token::Open(q)) => {
                 let inside = Cursor {
                     at: q,
                     left: c.left - 1,
                 };
-                let (e, d, r) = self.scan_product(inside, room)?;
-                Ok((self.close(e)?, d, r))
+                let found = self.scan_product(inside, room)?;
+                Ok(Scanned {
+                    end: self.close(found.end)?,
+                    ..found
+                })
             }
             _ => Err(Fault::Malformed(c.at)),
         }
@@ -149,21 +168,18 @@ impl Reader<'_> {
 
     // The same of a product.
     #[cycle(scanning)]
-    pub fn scan_product(
-        &self,
-        c: Cursor,
-        room: Option<usize>,
-    ) -> Result<(usize, u8, Option<usize>), Fault<usize>>
+    pub fn scan_product(&self, c: Cursor, room: Option<usize>) -> Result<Scanned, Fault<usize>>
         ensures { result ≡ scanned_of room (product_of c.left (names self.now.table.now) self.now.text.now c.at) }
     {
-        let (mut e, mut d, mut r) = self.scan_operand(c, room)?;
-        while let Some(Token::Times(q)) = self.token(e) {
-            let (f, d2, r2) = self.scan_operand(Cursor { at: q, ..c }, spend(r, 1))?;
-            e = f;
-            d = deeper(d.max(d2));
-            r = r2;
+        let mut found = self.scan_operand(c, room)?;
+        while let Some(Token::Times(q)) = self.token(found.end) {
+            let next = self.scan_operand(Cursor { at: q, ..c }, spend(found.room, 1))?;
+            found = Scanned {
+                depth: deeper(found.depth.max(next.depth)),
+                ..next
+            };
         }
-        Ok((e, d, r))
+        Ok(found)
     }
 
     #[cycle(laying)]

@@ -19,6 +19,13 @@ pub struct Wrote {
     pub width: usize,
 }
 
+// What measuring finds of a type record: where it ends and the room that its text leaves.
+#[derive(Clone, Copy)]
+pub struct Measured {
+    pub end: usize,
+    pub room: Option<usize>,
+}
+
 // Where a type stands in a text: a product that is a right operand is bracketed.
 #[derive(Clone, Copy, PartialEq, Eq)]
 pub enum Side {
@@ -60,7 +67,7 @@ impl Writer<'_> {
         }
     }
 
-    // Where a type record ends and the room that its text leaves; or the first fault.
+    // What is found of a type record; or the first fault.
     // left: the levels of records that remain.
     pub(crate) fn measure(
         &self,
@@ -68,7 +75,7 @@ impl Writer<'_> {
         left: u32,
         side: Side,
         room: Option<usize>,
-    ) -> Result<(usize, Option<usize>), Fault<usize>>
+    ) -> Result<Measured, Fault<usize>>
         ensures { result ≡ measured_of (names self.now.table.now) side room (type_at left self.now.count self.now.bytes.now at) }
     {
         let head = types::head_at(self.bytes, self.count, at).ok_or(Fault::Malformed(at))?;
@@ -76,7 +83,10 @@ impl Writer<'_> {
             return Err(Fault::Beyond(at));
         }
         match head {
-            Head::Atomic(a, e) => Ok((e, spend(room, self.atom_width(a)))),
+            Head::Atomic(a, e) => Ok(Measured {
+                end: e,
+                room: spend(room, self.atom_width(a)),
+            }),
             Head::Power(e) => {
                 self.measure(
                     e,
@@ -86,8 +96,8 @@ impl Writer<'_> {
                 )
             }
             Head::Product(e) => {
-                let (f, more) = self.measure(e, left - 1, Side::Plain, spend(room, signs(side)))?;
-                self.measure(f, left - 1, Side::Right, more)
+                let first = self.measure(e, left - 1, Side::Plain, spend(room, signs(side)))?;
+                self.measure(first.end, left - 1, Side::Right, first.room)
             }
         }
     }

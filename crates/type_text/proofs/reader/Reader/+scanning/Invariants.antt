@@ -12,7 +12,7 @@ decreases-scan_product l = l.c.left * 2 + 1
 
 abbrev pub invariant-scan_product-loop-q : goal.invariant-scan_product-loop-q
 invariant-scan_product-loop-q l =
-    Scanning l.fn.c.left (names l.self.table.now) l.self.text.now (scanned_of l.fn.room (product_of l.fn.c.left (names l.self.table.now) l.self.text.now l.fn.c.at)) l.e l.d l.r
+    Scanning l.fn.c.left (names l.self.table.now) l.self.text.now (scanned_of l.fn.room (product_of l.fn.c.left (names l.self.table.now) l.self.text.now l.fn.c.at)) l.found.end l.found.depth l.found.room
 
 abbrev pub decreases-scan_product-loop-q : goal.decreases-scan_product-loop-q
-decreases-scan_product-loop-q l = length l.self.text.now - l.e
+decreases-scan_product-loop-q l = length l.self.text.now - l.found.end

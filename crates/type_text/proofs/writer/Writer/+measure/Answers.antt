@@ -11,8 +11,8 @@ returns-in_err-head t c = let p = err_from_is_err_and c.from_residual.result c.f
 pub returns-then-left-eq0 : goal.returns-then-left-eq0
 returns-then-left-eq0 t c = measured_as _ _ _ _ _ _ (type-deep _ _ _ _ _ c.head_at.ensures c.if-left-eq0.true _ c.in_ok-head.ensures.ok_part) (measured_deep _ _ _ _)
 
-pub returns-in_err-f-in-Product : goal.returns-in_err-f-in-Product
-returns-in_err-f-in-Product t c = let p = err_from_is_err_and c.from_residual-in_err-f-in-Product.result c.from_residual-in_err-f-in-Product.ensures.1 in rw (p.1, p.2) (measured_as _ _ _ _ _ _ (type-product _ _ _ _ _ c.head_at.ensures c.if-left-eq0.false _ (c.in_ok-head.ensures.ok_part ∙ ap Some c.in-Product.is)) (measured_left-stop _ _ _ _ _ _ _ c.signs.ensures c.spend-in-Product.ensures c.measure-in-Product.ensures _ _ c.in_err-f-in-Product.was))
+pub returns-in_err-first-in-Product : goal.returns-in_err-first-in-Product
+returns-in_err-first-in-Product t c = let p = err_from_is_err_and c.from_residual-in_err-first-in-Product.result c.from_residual-in_err-first-in-Product.ensures.1 in rw (p.1, p.2) (measured_as _ _ _ _ _ _ (type-product _ _ _ _ _ c.head_at.ensures c.if-left-eq0.false _ (c.in_ok-head.ensures.ok_part ∙ ap Some c.in-Product.is)) (measured_left-stop _ _ _ _ _ _ _ c.signs.ensures c.spend-in-Product.ensures c.measure-in-Product.ensures _ _ c.in_err-first-in-Product.was))
 
 pub returns-in-Atomic : goal.returns-in-Atomic
 returns-in-Atomic t c = measured_as _ _ _ _ _ _ (type-atom _ _ _ _ _ c.head_at.ensures c.if-left-eq0.false _ _ (c.in_ok-head.ensures.ok_part ∙ ap Some c.in-Atomic.is)) (measured_atom _ _ _ _ _ _ _ c.atom_width.ensures c.spend.ensures)
@@ -20,5 +20,5 @@ returns-in-Atomic t c = measured_as _ _ _ _ _ _ (type-atom _ _ _ _ _ c.head_at.e
 pub returns-in-Power : goal.returns-in-Power
 returns-in-Power t c = measured_as _ _ _ _ _ _ (type-power _ _ _ _ _ c.head_at.ensures c.if-left-eq0.false _ (c.in_ok-head.ensures.ok_part ∙ ap Some c.in-Power.is)) (measured_power _ _ _ _ _ _ c.spend-in-Power.ensures c.measure.ensures)
 
-pub returns-in_ok-f-in-Product : goal.returns-in_ok-f-in-Product
-returns-in_ok-f-in-Product t c = measured_as _ _ _ _ _ _ (type-product _ _ _ _ _ c.head_at.ensures c.if-left-eq0.false _ (c.in_ok-head.ensures.ok_part ∙ ap Some c.in-Product.is)) (measured_product _ _ _ _ _ _ _ c.signs.ensures c.spend-in-Product.ensures c.measure-in-Product.ensures _ _ _ _ c.in_ok-f-in-Product.was c.measure-in-Product-2.ensures)
+pub returns-in_ok-first-in-Product : goal.returns-in_ok-first-in-Product
+returns-in_ok-first-in-Product t c = measured_as _ _ _ _ _ _ (type-product _ _ _ _ _ c.head_at.ensures c.if-left-eq0.false _ (c.in_ok-head.ensures.ok_part ∙ ap Some c.in-Product.is)) (measured_product _ _ _ _ _ _ _ c.signs.ensures c.spend-in-Product.ensures c.measure-in-Product.ensures _ _ _ c.in_ok-first-in-Product.was c.measure-in-Product-2.ensures)
