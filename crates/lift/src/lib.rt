@@ -1,5 +1,6 @@
 // A type record of a byte slice, lifted into the arena: its parts first, the left one first, then the node itself. Any bytes are taken: where no
 // type record stands, or one deeper than `left` levels, the answer is `Broken`. Nodes that were made before the capacity ended stand.
+// Words and count go apart, as in `makers`.
 #![tactic(auto)]
 
 ghost use Rattle.std.specs.Prelude.{◌≡◌};

@@ -1,6 +1,7 @@
 // The makers of the arena's nodes, on words that the caller lends: three a node.
 // `count` is the number of nodes. Every function takes any words, counts and references.
-// The words and the count stay two parameters: each caller has them apart, and would make a struct for the one call.
+// The words and the count stay two parameters: `trial_solved`, an export, has words that it may only read, and `lift` a count that grows between two
+// calls; one struct serves neither.
 // What each makes is a definition of crate `unification`: `specs/Answers` says how an answer is read as that definition's outcome.
 #![tactic(auto)]
 
@@ -20,7 +21,7 @@ pub enum MakeError {
     Broken,
 }
 
-// Makes the next node of three words.
+// Makes the next node of three words. The kind is a number, as in the words themselves (crate `unification`).
 fn push(words: &mut [u32], count: u32, kind: u32, a: u32, b: u32) -> Result<NodeRef, MakeError>
     ensures { made result words.new ≡ make_of words.old count kind a b }
 {
@@ -31,7 +32,7 @@ fn push(words: &mut [u32], count: u32, kind: u32, a: u32, b: u32) -> Result<Node
     if words.len() - at < 3 {
         return Err(MakeError::Full);
     }
-    if count == 0xFFFF_FFFF {
+    if count == u32::MAX {
         return Err(MakeError::Broken);
     }
     words[at] = kind;
@@ -56,6 +57,8 @@ pub fn make(words: &mut [u32], count: u32, node: Node) -> Result<NodeRef, MakeEr
         _ => Err(MakeError::Broken),
     }
 }
+
+// ---- the makers by name: each promises its own `build`
 
 // A fresh unknown.
 pub fn fresh(words: &mut [u32], count: u32) -> Result<NodeRef, MakeError>

@@ -1,12 +1,13 @@
 -- One step of each definition over type records, in the order of the code that follows it.
 use Rattle.std.specs.Prelude.{Option, Some, None, Result, Ok, Err, ℕ, zero, suc, ◌+◌, ◌-◌, ◌*◌, ◌≤◌, ◌<◌, ◌≡◌, Bool, true, false, get_or, take, drop, leb, ltb, eqb}
 use Rattle.std.specs.Option.{ok_or}
+use Rattle.std.specs.Bool.{then_some}
 use Rattle.std.proofs.Common.{add-one, ◌∙◌, drop_of_length-le, length-drop, length-take, drop-cons, take_all, length-take-le}
 use native.Mathlib.Omega.{arith}
 use Rattle.std.proofs.Math.Path.{refl, sym, ap}
 use mathlib.Core.List.{List, [], ◌∷◌}
 use Rattle.std.proofs.Math.ListN.{length}
-use borrow.Author.Tests.{lt-ltb, le-ltb, ne_eqb, leb-true, leb-false}
+use borrow.Author.Tests.{ne_eqb, leb-true, leb-false}
 use Rattle.types.specs.declared.Atom.{Atom}
 use Rattle.types.specs.declared.Atom.TheVariants.{Bool as BOOL, Integer, Given}
 use Rattle.types.specs.declared.Head.{Head}
@@ -72,13 +73,13 @@ module _ (names : ℕ) (s : List ℕ) (p : ℕ) (h : p < length s) where
         let e : p + 1 + 1 ≡ p + 2 = omega arith in
         rw (drop-next s (p + 1) (omega arith), e, drop-next s (p + 2) (omega arith), el, eh)
 
-    pub given-known : (n : ℕ) → n ≡ lo + hi * 256 → n < names → head_is (Some (Atomic (Given (record { 0 = n })) (p + 3))) ≡ given_of names p (drop (p + 1) s)
+    pub given-told : (n : ℕ) → n ≡ lo + hi * 256 → (k : Option Head) → k ≡ then_some (ltb n names) (Atomic (Given (record { 0 = n })) (p + 3)) → head_is k ≡ given_of names p (drop (p + 1) s)
     unfolding head_is atom_is
-    given-known n e k = sym (given_both ∙ rw (sym e, lt-ltb _ _ k))
-
-    pub given-unknown : (n : ℕ) → n ≡ lo + hi * 256 → names ≤ n → head_is None ≡ given_of names p (drop (p + 1) s)
-    unfolding head_is
-    given-unknown n e k = sym (given_both ∙ rw (sym e, le-ltb _ _ k))
+    given-told n e k q = ap head_is q ∙ (go (ltb n names) ∙ sym (given_both ∙ ap (λ (m : ℕ). pick (ltb m names) (R.atomic (T.given m) (p + 3)) R.wrong) (sym e)))
+      where
+        go : (b : Bool) → head_is (then_some b (Atomic (Given (record { 0 = n })) (p + 3))) ≡ pick b (R.atomic (T.given n) (p + 3)) R.wrong
+        go true = refl
+        go false = refl
 
 -- a record that is there ends inside the bytes
 unfoldable pub Inside : ℕ → R.Head → Type 0

@@ -24,6 +24,18 @@ pub const MAX_CAPACITY: u32 = 32768;
 // The words of the book, behind the arena's three words a node.
 pub const BOOK: usize = 4096;
 
+// ---- the kinds of a type record
+
+pub const BOOL: u8 = 0x40;
+
+pub const INTEGER: u8 = 0x41;
+// two bytes follow: a name
+pub const GIVEN: u8 = 0x42;
+// one part follows, or two
+pub const POWER: u8 = 0x43;
+
+pub const PRODUCT: u8 = 0x44;
+
 // ---- kinds of number
 
 // A node of the arena.
@@ -79,10 +91,7 @@ fn given_at(s: &[u8], names: u32, at: usize) -> Option<Head>
         return None;
     }
     let n = u32::from(u16::from_le_bytes([s[at + 1], s[at + 2]]));
-    if n < names {
-        return Some(Head::Atomic(Atom::Given(Name(n)), at + 3));
-    }
-    None
+    (n < names).then_some(Head::Atomic(Atom::Given(Name(n)), at + 3))
 }
 
 // The head of the type record at an offset; past the end there is none.
@@ -90,11 +99,11 @@ pub fn head_at(s: &[u8], names: u32, at: usize) -> Option<Head>
     ensures { head_is result ≡ head_of names at (drop at s.now) }
 {
     match *s.get(at)? {
-        0x40 => Some(Head::Atomic(Atom::Bool, at + 1)),
-        0x41 => Some(Head::Atomic(Atom::Integer, at + 1)),
-        0x42 => given_at(s, names, at),
-        0x43 => Some(Head::Power(at + 1)),
-        0x44 => Some(Head::Product(at + 1)),
+        BOOL => Some(Head::Atomic(Atom::Bool, at + 1)),
+        INTEGER => Some(Head::Atomic(Atom::Integer, at + 1)),
+        GIVEN => given_at(s, names, at),
+        POWER => Some(Head::Power(at + 1)),
+        PRODUCT => Some(Head::Product(at + 1)),
         _ => None,
     }
 }
@@ -122,8 +131,8 @@ fn end_at(s: &[u8], names: u32, at: Place, left: u32) -> Result<Place, Fault<Pla
 pub fn type_end(s: &[u8], names: u32, at: Place, left: u32) -> Result<Place, Fault<Place>>
     ensures { result ≡ end_of (type_at left names (reach s.now) at.0) }
 {
-    if s.len() > 0xFFFFFFFF {
-        return end_at(&s[..0xFFFFFFFF], names, at, left);
+    if s.len() > u32::MAX as usize {
+        return end_at(&s[..u32::MAX as usize], names, at, left);
     }
     end_at(s, names, at, left)
 }

@@ -1,4 +1,5 @@
 // The first of a node's three words, as `decode` of `specs/Arena` reads it. The second and the third are the name or the parts.
+// Numbers: a node is three words of lent memory, which `decode` reads, and what they are is promised (`make_of`).
 #![tactic(auto)]
 
 pub const BOOL: u32 = 0x40;

@@ -6,14 +6,14 @@ use Rattle.types.specs.Steps.{in_reach, taken, taken-all}
 use Rattle.types.proofs.type_end.Goals as goal
 
 pub slice_bounds-end_at-end : goal.slice_bounds-end_at-end
-slice_bounds-end_at-end c = taken-all 4294967295 c.args.s.now c.if-s-gt4294967295.true
+slice_bounds-end_at-end c = taken-all 4294967295 c.args.s.now c.if-s.true
 
 pub end_at-requires : goal.end_at-requires
 end_at-requires c = taken 4294967295 c.args.s.now
 
-pub returns-then-s-gt4294967295 : goal.returns-then-s-gt4294967295
+pub returns-then-s : goal.returns-then-s
 unfolding reach
-returns-then-s-gt4294967295 c = search rules
+returns-then-s c = search rules
 
 pub returns : goal.returns
 returns c = c.end_at-2.ensures ∙ ap end_of (sym (in_reach _ _ _ _ (search rules)))
