@@ -106,8 +106,8 @@ impl Reader<'_> {
         }
     }
 
-    // Each row of records is read by a `for` of its own: a closure handed to one function for all would call back into the cycle `reading`, and needs
-    // clauses of its own there, longer than the loop.
+    // Each row of records is read by a `for` of its own. In `read_exprs` and `read_preds` a closure handed to one function for all would call back into
+    // the cycle `reading`, and needs clauses of its own there, longer than the loop; the other three have the same form.
     #[tactic(auto, using(crate::specs::Steps::many_steps), unfolding(crate::specs::Parse::decls_at))]
     fn read_decls(self, left: u32, n: u8, st: St) -> Result<St, Fault<Place>>
         ensures { result ≡ forget (decls_at self.entry.names (reach self.entry.s.now) left n st) }
@@ -330,7 +330,8 @@ pub fn check_formula(s: &[u8], names: u32) -> Result<(), FormError>
 
 // What the test of an environment answers: its form, and for each name the place of its type plus 1, or 0.
 // After a fault, or for a stream that is too long, every cell is 0: `answer_of` and must-fail/table_after_fault speak of the table then too, so that it
-// stands beside the form.
+// stands beside the form. A cell is the word that the book gets (`machine::ENTRIES`): as an Option it would be turned into that word by
+// `runner::enter_types`, and `answer_of` counts so.
 #[derive(Clone, Copy)]
 pub struct Environment {
     pub form: Result<(), FormError>,
@@ -351,11 +352,9 @@ impl Reader<'_> {
     fn entry_at(self, at: Place) -> Option<(u16, Place)>
         ensures { result ≡ entry_at self.entry.names (reach self.entry.s.now) at }
     {
-        let (k, p) = heads::byte_at(self.s, at)?;
-        if k == 0x50 {
-            heads::name_at(self.s, self.names, p)
-        } else {
-            None
+        match heads::byte_at(self.s, at)? {
+            (0x50, p) => heads::name_at(self.s, self.names, p),
+            _ => None,
         }
     }
 

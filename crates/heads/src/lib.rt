@@ -119,7 +119,10 @@ pub fn few_at(s: &[u8], at: Place) -> Option<(u8, Place)>
     (1 <= n).then_some((n, e))
 }
 
-// ---- heads. No head: none of its class that is well formed stands there; nothing is said of the records below it
+// ---- heads. No head: none of its class that is well formed stands there; nothing is said of the records below it.
+// The kinds and limits are numbers of the format (docs/FORMAT.md, `specs/Heads`): here they become heads. The place stands in each variant: `expr_body`
+// and its like read a head's parts and its end in one. The stream and the count of names go apart: the walk reads with 256 and a stream of its
+// machine's, and most heads need no count. bare goes down one level, to an explicit type's own expression alone.
 
 // An expression of kind k whose body stands at p; bare: where no 0C may stand.
 #[tactic(auto, unfolding(crate::specs::Heads::expr_body, crate::specs::Heads::on_part))]
@@ -276,11 +279,9 @@ pub fn decl_end(h: DeclHead) -> Place
 pub fn target_at(s: &[u8], names: u32, at: Place) -> Option<(u16, Place)>
     ensures { result ≡ target_at names (reach s.now) at }
 {
-    let (k, p) = byte_at(s, at)?;
-    if k == 0x01 {
-        name_at(s, names, p)
-    } else {
-        None
+    match byte_at(s, at)? {
+        (0x01, p) => name_at(s, names, p),
+        _ => None,
     }
 }
 

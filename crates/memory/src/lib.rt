@@ -4,7 +4,7 @@
 ghost use Rattle.std.specs.Prelude.{◌≡◌, ◌++◌, ◌-◌, length, take, replicate};
 ghost use Rattle.memory.specs.Memory.{cleared};
 
-// One value from a place on.
+// One value from a place on. A loop: `fill` clones, and of any T it is not known that a clone cannot fail and is the value.
 fn refill<T: Copy>(items: &mut [T], from: usize, value: T)
     ensures { items.new ≡ take from items.old ++ replicate (length items.old - from) value }
 {
@@ -14,6 +14,8 @@ fn refill<T: Copy>(items: &mut [T], from: usize, value: T)
         }
     }
 }
+
+// Two names: zero is no value of any T, and `cleared` says zero. Each has its must-fail edit.
 
 // Zeros from a place on.
 pub fn clear_bytes(bytes: &mut [u8], from: usize)

@@ -13,10 +13,8 @@ use unifier::{Halt, Verdict};
 pub fn trial_unify(words: &mut [u32], budget: &mut u64, count: u32, a: u32, b: u32) -> u32
     ensures { unified_as result budget.new words.new ≡ unify count (words.old, a, b) budget.old }
 {
-    let mut left = *budget;
-    match unifier::unify(words, count, NodeRef(a), NodeRef(b), &mut left) {
+    match unifier::unify(words, count, NodeRef(a), NodeRef(b), budget) {
         Ok(verdict) => {
-            *budget = left;
             match verdict {
                 Verdict::Done => 0,
                 Verdict::Mismatch => 100,
@@ -31,12 +29,8 @@ pub fn trial_unify(words: &mut [u32], budget: &mut u64, count: u32, a: u32, b: u
 pub fn trial_solved(words: &[u32], budget: &mut u64, count: u32, t: u32) -> u32
     ensures { told_as result budget.new ≡ solved words.now count t budget.old }
 {
-    let mut left = *budget;
-    match unifier::solved(words, count, NodeRef(t), &mut left) {
-        Ok(known) => {
-            *budget = left;
-            if known { 0 } else { 1 }
-        }
+    match unifier::solved(words, count, NodeRef(t), budget) {
+        Ok(known) => { if known { 0 } else { 1 } }
         Err(Halt::Spent) => 7,
         Err(Halt::Broken) => 2,
     }
