@@ -1,4 +1,4 @@
-// An answer of inference as numbers.
+// An answer of inference as numbers, for the C interface.
 ghost use Rattle.std.specs.Prelude.{◌≡◌};
 ghost use Rattle.runner.specs.Answers.{told};
 

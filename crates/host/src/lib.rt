@@ -1,13 +1,15 @@
 // The four entries that the workbench calls, with numbers and slices. Each result is the answer's number; place, length and steps are always written.
 // After this file a reader knows what a call leaves behind: what `infer_of`, `read_answer` and `write_answer` say, and nothing else. Signatures, with what is
-// written through references, and clauses are those of the C interface (crate `host_c`), entry by entry.
+// written through references, and clauses are those of the C interface (crate `host_c`), entry by entry. The two of text stand in `text_entries`.
 #![tactic(auto)]
 
 mod answer;
 
 ghost use Rattle.std.specs.Prelude.{◌≡◌, length as List·length};
 ghost use Rattle.inference.specs.Infer.{infer_of, output_after, work_after};
-ghost use Rattle.type_text.specs.Answer.{number_of, place_of, length_of, read_answer, read_page, write_answer, write_page};
+
+// Reads a type's text, and puts its record at the page's start; writes the text of a type record into the page, from a position on.
+pub use text_entries::{typecheck_read_text, typecheck_write_text};
 
 // Infers the types of a formula under an environment, at a capacity of the caller's, in work memory that is lent.
 pub fn typecheck_infer_in(
@@ -78,37 +80,4 @@ pub fn typecheck_infer(
         length,
         steps,
     )
-}
-
-// Reads a type's text and puts its record at the page's start; the length is the record's.
-pub fn typecheck_read_text(
-    text: &[u8],
-    table: &[u8],
-    page: &mut [u8],
-    place: &mut u64,
-    length: &mut u64,
-) -> u32
-    ensures value { result ≡ number_of (read_answer text.now table.now page.old) }
-    ensures place_after { place.new ≡ place_of (read_answer text.now table.now page.old) }
-    ensures length_after { length.new ≡ length_of (read_answer text.now table.now page.old) }
-    ensures page_after { page.new ≡ read_page text.now table.now page.old }
-{
-    text_entries::typecheck_read_text(text, table, page, place, length)
-}
-
-// Writes the text of a type record into the page from a position on; the length is the text's.
-pub fn typecheck_write_text(
-    bytes: &[u8],
-    table: &[u8],
-    page: &mut [u8],
-    position: u64,
-    place: &mut u64,
-    length: &mut u64,
-) -> u32
-    ensures value { result ≡ number_of (write_answer bytes.now table.now page.old position) }
-    ensures place_after { place.new ≡ place_of (write_answer bytes.now table.now page.old position) }
-    ensures length_after { length.new ≡ length_of (write_answer bytes.now table.now page.old position) }
-    ensures page_after { page.new ≡ write_page bytes.now table.now page.old position }
-{
-    text_entries::typecheck_write_text(bytes, table, page, position, place, length)
 }

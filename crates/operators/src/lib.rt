@@ -125,6 +125,8 @@ pub enum Item {
 }
 
 // The rule of an operator, by its number: the script that is played once its parts are walked.
+// An operator is its number of the format: an enum between the head and its script would be matched once, here, on the same rows, and
+// `check_binary_of` and its like are over the numbers.
 
 #[tactic(auto, using(forms::specs::Forms::yes_le, forms::specs::Forms::no_le, forms::specs::Forms::yes_eq, forms::specs::Forms::no_eq), unfolding(crate::specs::Operators::check_atomic_of))]
 pub fn check_atomic(op: u8) -> Script

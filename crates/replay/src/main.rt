@@ -12,6 +12,7 @@ use std::io::{self, Read, Seek, SeekFrom};
 const PAGE: usize = 512;
 
 // A field's bytes, at the start of a page of zeros.
+// The page stands whole: an entry's zeros after the bytes are compared too, and no memory is taken.
 #[derive(Drop)]
 struct Bytes {
     page: [u8; PAGE],
@@ -73,11 +74,8 @@ impl Fields<'_> {
     // Decimal digits, of which the last five count.
     fn number(&mut self) -> u32 {
         let mut number = 0;
-        for byte in self.rest {
-            match byte {
-                b'0'..=b'9' => number = number % 10000 * 10 + (byte - b'0') as u32,
-                _ => break,
-            }
+        for byte in self.rest.iter().take_while(|byte| byte.is_ascii_digit()) {
+            number = number % 10000 * 10 + u32::from(byte - b'0');
         }
         self.skip();
         number
