@@ -2,9 +2,7 @@
 // the output.
 #![tactic(auto)]
 
-ghost use Rattle.std.specs.Prelude.{◌≡◌, take};
-ghost use Rattle.unification.specs.Put.{put};
-ghost use Rattle.write.specs.Answers.{laid};
+ghost use Rattle.std.specs.Prelude.{◌≡◌};
 ghost use Rattle.machine.specs.Seen.{machine, walked, problem_number, name_number, Kept};
 ghost use Rattle.finisher.specs.Finisher.{settle_of, name_of, slot_of, test_names_of, test_slots_of, clean_of, finish_of, spell_of, entry_of, type_of, write_names_of, write_slots_of, write_answer_of};
 
@@ -111,21 +109,6 @@ pub fn finish(walk: &mut Machine) -> Result<(), Stop>
 
 // ---- types
 
-// The arena is lent to the writer.
-fn lay(
-    work: &[u32],
-    size: u32,
-    count: u32,
-    output: &mut [u8],
-    at: usize,
-    t: NodeRef,
-    left: &mut u64,
-) -> Result<usize, WriteError>
-    ensures { laid result left.new output.new ≡ put (take size work.now) count (output.old, at, t.0) left.old }
-{
-    write::put(machine::arena(work, size), count, output, at, t, left)
-}
-
 // The type at a reference is written after the bytes so far, with a budget that every test was within.
 fn spell(walk: &mut Machine, t: NodeRef) -> Result<(), Stop>
     ensures value { walked result walk.new ≡ spell_of t.0 (machine walk.old) }
@@ -135,11 +118,11 @@ fn spell(walk: &mut Machine, t: NodeRef) -> Result<(), Stop>
         return Ok(());
     }
     let mut left = u64::MAX;
-    let (size, count, at) = (walk.size, walk.nodes, walk.bytes);
+    let (count, at) = (walk.nodes, walk.bytes);
     // the arena is taken while the output is lent: of a struct behind a reference one field is lent at a time
-    let work = std::mem::take(&mut walk.work);
-    let laid = lay(work, size, count, walk.output, at, t, &mut left);
-    walk.work = work;
+    let arena = std::mem::take(&mut walk.arena);
+    let laid = write::put(arena, count, walk.output, at, t, &mut left);
+    walk.arena = arena;
     match laid {
         Ok(end) => walk.bytes = end,
         Err(WriteError::Full) => walk.over = true,

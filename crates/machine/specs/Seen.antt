@@ -9,7 +9,7 @@ use Rattle.makers.specs.declared.MakeError.{MakeError}
 use Rattle.makers.specs.declared.MakeError.TheVariants as Ma
 use Rattle.unifier.specs.declared.Halt.{Halt}
 use Rattle.unifier.specs.declared.Halt.TheVariants as Ha
-use Rattle.machine.specs.Machine.{Mach, mach, make_of}
+use Rattle.machine.specs.Machine.{Mach, whole, make_of}
 use Rattle.machine.specs.Types.{atom_of}
 use Rattle.machine.specs.Still.{still_placed, still_gave, still_bound, still_skip, still_list, still_make, still_atom, still_expect, still_leave, still_remember, still_enrol, still_push, still_lift, still_noted, still_notes, still_meets, still_claim, still_declare, still_items, still_play}
 use Rattle.machine.specs.declared.Machine.{Machine}
@@ -27,7 +27,7 @@ stop_number S.Broken = 2
 -- stopped with a number, or going on with 0
 abbrev pub stopped_at : ℕ → Machine → Mach
 stopped_at n m =
-    mach m.size (record { at = m.at; from = m.from; last = m.last; nodes = m.nodes; budget = m.budget; slots = m.slots; met = m.met; bound = m.bound; bytes = m.bytes; over = m.over; stop = n }) m.work.now m.output.now
+    whole (record { at = m.at; from = m.from; last = m.last; nodes = m.nodes; budget = m.budget; slots = m.slots; met = m.met; bound = m.bound; bytes = m.bytes; over = m.over; stop = n }) m.arena.now m.book.now m.output.now
 
 abbrev pub machine : Machine → Mach
 machine m = stopped_at 0 m
@@ -53,12 +53,12 @@ made_of (Leaf a) m = atom_of (atom_is a) m
 made_of (Power x) m = make_of 0x43 x.0 0 m
 made_of (Product x y) m = make_of 0x44 x.0 y.0 m
 
--- what no step changes: what is read, the arena's size, and which memory is lent
+-- what no step changes: what is read, and which memory is lent
 pub record Kept (a b : Machine) : Type 0 where
   pub formula : b.formula.now ≡ a.formula.now
   pub environment : b.environment.now ≡ a.environment.now
-  pub size : b.size ≡ a.size
-  pub work : b.work.ghost_name ≡ a.work.ghost_name
+  pub arena : b.arena.ghost_name ≡ a.arena.ghost_name
+  pub book : b.book.ghost_name ≡ a.book.ghost_name
   pub output : b.output.ghost_name ≡ a.output.ghost_name
 
 abbrev pub problem_number : Problem → ℕ

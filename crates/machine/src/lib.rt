@@ -1,14 +1,11 @@
-// The walk's machine: what it reads, the memory that is lent to it, and the steps that every walk is made of. The arena is the first `size` words
-// of the work slice, the book stands behind it, and problems go straight into the output. A step that stops the walk is an `Err`.
+// The walk's machine: what it reads, the memory that is lent to it, and the steps that every walk is made of. Arena and
+// book are words lent apart, and problems go straight into the output. A step that stops the walk is an `Err`.
 #![tactic(auto)]
 
-ghost use Rattle.std.specs.Prelude.{◌≡◌, ℕ, ◌+◌, ◌*◌, ◌-◌, ◌<◌, ◌≤◌, List, length, get_or, take, drop, set};
+ghost use Rattle.std.specs.Prelude.{◌≡◌, ℕ, ◌+◌, ◌*◌, ◌-◌, ◌<◌, ◌≤◌, List, length, get_or, set};
 ghost use Rattle.types.specs.Code.{atom_is};
-ghost use Rattle.unification.specs.Arena.{unify, solved};
-ghost use Rattle.unification.specs.Make.{build};
-ghost use Rattle.unification.specs.Nodes.{node_is};
-ghost use Rattle.makers.specs.Answers.{made};
-ghost use Rattle.unifier.specs.Answers.{settled, told};
+ghost use Rattle.unification.specs.Arena.{solved};
+ghost use Rattle.unifier.specs.Answers.{told};
 ghost use Rattle.machine.specs.Machine.{on_st, start_of, placed_of, passed_of, gave_of, bound_of, paid_of, enter_of, grown_of, cell, word_of, put_of, emit_of, two_of, four_of, list_of, make_of, expect_of, leave_of, remember_of, enrol_of, push_bound_of};
 ghost use Rattle.machine.specs.Types.{skip_of, atom_of, lift_of, free_of, bound_identifier_of, note_of, noted_of, notes_of, meets_of, spelled_of, ascription_of, claim_of, declaration_by, declaration_of, declare_of};
 ghost use Rattle.machine.specs.Scripts.{chosen_of, place_of, item_of, play_of, parts_of};
@@ -57,9 +54,8 @@ impl From<Halt> for Stop {
 pub struct Machine<'a, 'b> {
     pub formula: &'a [u8],
     pub environment: &'a [u8],
-    // the words of the arena
-    pub size: u32,
-    pub work: &'a mut [u32],
+    pub arena: &'a mut [u32],
+    pub book: &'a mut [u32],
     pub output: &'b mut [u8],
     // the next byte of the formula
     pub at: Place,
@@ -151,64 +147,32 @@ fn name_word(name: Option<Name>) -> u32
     name.map_or(0xFFFF, |x| x.0)
 }
 
-// ---- the arena: the first `size` words of the work slice are lent to the unifier, in functions that do nothing else
-
-// The arena, to read.
-pub fn arena(work: &[u32], size: u32) -> &[u32]
-    ensures { result.now ≡ take size work.now }
-{
-    let n = work.len().min(size as usize);
-    &work[..n]
-}
-
-fn push(work: &mut [u32], size: u32, count: u32, node: Node) -> Result<NodeRef, MakeError>
-    ensures work_after { made result (take size work.new) ≡ build (take size work.old) count (node_is node) }
-    ensures work_unchanged { drop size work.new ≡ drop size work.old }
-{
-    let n = work.len().min(size as usize);
-    makers::make(&mut work[..n], count, node)
-}
-
-fn unified(
-    work: &mut [u32],
-    size: u32,
-    count: u32,
-    a: NodeRef,
-    b: NodeRef,
-    left: &mut u64,
-) -> Result<Verdict, Halt>
-    ensures work_after { settled result left.new (take size work.new) ≡ unify count (take size work.old, a.0, b.0) left.old }
-    ensures work_unchanged { drop size work.new ≡ drop size work.old }
-{
-    let n = work.len().min(size as usize);
-    unifier::unify(&mut work[..n], count, a, b, left)
-}
-
 impl<'a, 'b> Machine<'a, 'b> {
     // The machine that a walk begins with.
     #[tactic(auto, using(crate::specs::Seen::still, crate::specs::Still::tests), unfolding(crate::specs::Machine::start_of, forms::specs::Forms::then))]
     pub fn new(
         formula: &'a [u8],
         environment: &'a [u8],
-        size: u32,
         budget: u64,
-        work: &'a mut [u32],
+        arena: &'a mut [u32],
+        book: &'a mut [u32],
         output: &'b mut [u8],
     ) -> Machine<'a, 'b>
         ensures state { (machine result).st ≡ start_of budget }
         ensures formula { result.formula.now ≡ formula.now }
         ensures environment { result.environment.now ≡ environment.now }
-        ensures size { result.size ≡ size }
-        ensures words { result.work.now ≡ work.old }
-        ensures work { result.work.ghost_name ≡ work.entry.ghost_name }
+        ensures words { result.arena.now ≡ arena.old }
+        ensures arena { result.arena.ghost_name ≡ arena.entry.ghost_name }
+        ensures cells { result.book.now ≡ book.old }
+        ensures book { result.book.ghost_name ≡ book.entry.ghost_name }
         ensures bytes { result.output.now ≡ output.old }
         ensures output { result.output.ghost_name ≡ output.entry.ghost_name }
     {
         Machine {
             formula,
             environment,
-            size,
-            work,
+            arena,
+            book,
             output,
             at: Place(0),
             from: Place(0),
@@ -313,19 +277,18 @@ impl Machine<'_, '_> {
     pub fn read(&self, area: Area, j: u32, k: u32) -> u32
         ensures { result ≡ word_of (cell area.start area.stride j k) (machine self.now) }
     {
-        let i = self.size as usize + cell(area, j, k);
-        self.work.get(i).copied().unwrap_or(0)
+        self.book.get(cell(area, j, k)).copied().unwrap_or(0)
     }
 
     // Writes a word of the book; nothing outside.
-    #[tactic(auto, using(crate::specs::Seen::still, crate::specs::Still::tests), unfolding(crate::specs::Machine::put_of, forms::specs::Forms::then))]
+    #[tactic(auto, using(crate::specs::Seen::still, crate::specs::Still::tests, crate::proofs::Laws::set_outside), unfolding(crate::specs::Machine::put_of, forms::specs::Forms::then))]
     pub fn put(&mut self, area: Area, j: u32, k: u32, value: u32)
         ensures value { machine self.new ≡ put_of (cell area.start area.stride j k) value (machine self.old) }
         ensures kept { Kept self.old self.new }
     {
-        let i = self.size as usize + cell(area, j, k);
-        if i < self.work.len() {
-            self.work[i] = value;
+        let i = cell(area, j, k);
+        if i < self.book.len() {
+            self.book[i] = value;
         }
     }
 
@@ -391,7 +354,7 @@ impl Machine<'_, '_> {
     pub fn solved(&self, t: NodeRef, left: &mut u64) -> Result<bool, Halt>
         ensures { told result left.new ≡ solved (machine self.now).arena self.now.nodes t.0 left.old }
     {
-        unifier::solved(arena(self.work, self.size), self.nodes, t, left)
+        unifier::solved(self.arena, self.nodes, t, left)
     }
 
     // A node is made.
@@ -399,7 +362,7 @@ impl Machine<'_, '_> {
         ensures value { walked result self.new ≡ made_of node (machine self.old) }
         ensures kept { Kept self.old self.new }
     {
-        let r = push(self.work, self.size, self.nodes, node)?;
+        let r = makers::make(self.arena, self.nodes, node)?;
         self.grown(r)
     }
 
@@ -410,7 +373,7 @@ impl Machine<'_, '_> {
     {
         // a copy: at a stop the budget stays as it was
         let mut left = self.budget;
-        let verdict = unified(self.work, self.size, self.nodes, a, b, &mut left)?;
+        let verdict = unifier::unify(self.arena, self.nodes, a, b, &mut left)?;
         self.budget = left;
         match verdict {
             Verdict::Done => {}

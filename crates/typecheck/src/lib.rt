@@ -28,8 +28,9 @@ fn walk(
     ensures { judged result output.new ≡ judge_of budget (run_of formula.now environment.now types.now size budget (take (size + 4096) work.old) output.old) }
 {
     let n = work.len().min(size as usize + types::BOOK);
-    let mut machine = Machine::new(formula, environment, size, budget, &mut work[..n], output);
-    memory::clear_words(machine.work, size as usize);
+    let (arena, book) = work[..n].split_at_mut(n.min(size as usize));
+    memory::clear_words(book, 0);
+    let mut machine = Machine::new(formula, environment, budget, arena, book, output);
     runner::enter_types(&mut machine, types);
     walker::formula(&mut machine)?;
     finisher::finish(&mut machine)?;
