@@ -209,10 +209,9 @@ fn put_entries(page: &mut [u8; 16385]) {
     entry[0] = 0x50;
     entry[2] = 0;
     entry[63] = 0x41;
-    for name in 0..=255u8 {
+    for (name, cell) in (0..=255u8).zip(page.chunks_exact_mut(64)) {
         entry[1] = name;
-        let start = usize::from(name) * 64;
-        page[start..start + 64].copy_from_slice(&entry);
+        cell.copy_from_slice(&entry);
     }
 }
 
