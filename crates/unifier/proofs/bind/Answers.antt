@@ -22,9 +22,9 @@ returns-after-mine-other c =
     let i = c.requires.t_in_bounds in
     let b : (ws : Words) → c.if-mine-other.words ≡ ws → bind_at ws c.args.v.0 c.args.t.0 ≡ merge_at c.args.words.now c.args.count c.args.v.0 c.args.t.0 → c.link-in-No.new.words ≡ merge_at c.args.words.now c.args.count c.args.v.0 c.args.t.0 = λ ws e h. c.link-in-No.ensures ∙ ap (λ (us : Words). bind_at us c.args.v.0 c.args.t.0) e ∙ h in
     assign-merged _ _ _ _ _ _ _ (sym (told_as _ No _ c.in-No.is) ∙ c.seek-found.ensures) (elim c.if-mine-other.branch [
-      then-mine-other+then-other-lt32 w ↦ b _ w.words-is (sym (merge_level _ _ _ _ k i (omega (arith, c.if-words-q-ne-UNKNOWN.false)) (omega (arith, w.if-mine-other.true)) w.if-other-lt32.true))
+      | then-mine-other+then-other-lt32 w ↦ b _ w.words-is (sym (merge_level _ _ _ _ k i (omega (arith, c.if-words-q-ne-UNKNOWN.false)) (omega (arith, w.if-mine-other.true)) w.if-other-lt32.true))
       | else-mine-other w ↦ b _ w.words-is (elim w.else-mine-other.branch [
-        else-mine-other-via-then-mine-other+else-other-lt32 x ↦ sym (merge_last _ _ _ _ k i (omega (arith, c.if-words-q-ne-UNKNOWN.false)) (omega (arith, x.if-mine-other.true)) (omega (arith, x.if-other-lt32.false)))
+        | else-mine-other-via-then-mine-other+else-other-lt32 x ↦ sym (merge_last _ _ _ _ k i (omega (arith, c.if-words-q-ne-UNKNOWN.false)) (omega (arith, x.if-mine-other.true)) (omega (arith, x.if-other-lt32.false)))
         | else-mine-other-via-else-mine-other x ↦ sym (merge_above _ _ _ _ k i (omega (arith, c.if-words-q-ne-UNKNOWN.false)) (omega (arith, x.if-mine-other.false, c.if-other-mine.false)))
       ])
     ])
