@@ -107,7 +107,8 @@ impl Reader<'_> {
     }
 
     // Each row of records is read by a `for` of its own. In `read_exprs` and `read_preds` a closure handed to one function for all would call back into
-    // the cycle `reading`, and needs clauses of its own there, longer than the loop; the other three have the same form.
+    // the cycle `reading`, and needs clauses of its own there, longer than the loop. The other three have the same form: over `try_fold`, tried in
+    // `read_targets`, `many_steps` does not close the equation.
     #[tactic(auto, using(crate::specs::Steps::many_steps), unfolding(crate::specs::Parse::decls_at))]
     fn read_decls(self, left: u32, n: u8, st: St) -> Result<St, Fault<Place>>
         ensures { result ≡ forget (decls_at self.entry.names (reach self.entry.s.now) left n st) }
