@@ -14,7 +14,7 @@ use Rattle.forms.specs.Forms.{test, then}
 use Rattle.machine.specs.Machine.{Mach, on_st, left_of, stopped_of, bytes_of, over_of, list_of}
 use Rattle.machine.specs.Still.{test_no, test_eq}
 use Rattle.machine.specs.declared.Machine.{Machine}
-use Rattle.machine.specs.Seen.{machine, halted, stop_number}
+use Rattle.machine.specs.Seen.{machine, halted, stop_number, Kept}
 use Rattle.finisher.specs.Finisher.{most, told_by, settle_of, laid_by, spell_of, each_of}
 
 -- ---- the test's answers
@@ -67,3 +67,6 @@ unfolding each_of
 each_turn f u i m l = let e : u - i ≡ suc (u - (i + 1)) = omega arith in rw e
 
 pub ruleset turns = (each_end, each_turn)
+
+pub kept_then : {a b c : Machine} → Kept a b → Kept b c → Kept a c
+kept_then x y = record { formula = y.formula ∙ x.formula; environment = y.environment ∙ x.environment; size = y.size ∙ x.size; work = y.work ∙ x.work; output = y.output ∙ x.output }

@@ -27,14 +27,14 @@ still_spell : (t : ℕ) (m : Mach) → Halted m → spell_of t m ≡ m
 unfolding spell_of
 still_spell t m h = test_no (eqb m.st.stop 0) _ _ (ne_eqb m.st.stop 0 h)
 
-still_entry : (j : ℕ) (m : Mach) → Halted m → entry_of j m ≡ m
+pub still_entry : (j : ℕ) (m : Mach) → Halted m → entry_of j m ≡ m
 unfolding entry_of then
 still_entry j m h =
     let x = word_of (cell 2048 3 j 0) m in
     let t = word_of (cell 2048 3 j 1) m in
     ap (λ (a : Mach). spell_of t (two_of x a)) (still_emit 0x50 m h) ∙ ap (spell_of t) (still_two x m h) ∙ still_spell t m h
 
-still_type : (j : ℕ) (m : Mach) → Halted m → type_of j m ≡ m
+pub still_type : (j : ℕ) (m : Mach) → Halted m → type_of j m ≡ m
 unfolding type_of then
 still_type j m h =
     let t = word_of (cell 0 2 j 0) m in

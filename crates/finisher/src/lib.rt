@@ -2,9 +2,11 @@
 // the output.
 #![tactic(auto)]
 
-ghost use Rattle.std.specs.Prelude.{◌≡◌};
+ghost use Rattle.std.specs.Prelude.{◌≡◌, ℕ};
 ghost use Rattle.machine.specs.Seen.{machine, walked, problem_number, name_number, Kept};
-ghost use Rattle.finisher.specs.Finisher.{settle_of, name_of, slot_of, test_names_of, test_slots_of, clean_of, finish_of, spell_of, entry_of, type_of, write_names_of, write_slots_of, write_answer_of};
+ghost use Rattle.machine.specs.Machine.{Mach};
+ghost use Rattle.machine.specs.Still.{Halted};
+ghost use Rattle.finisher.specs.Finisher.{each_of, settle_of, name_of, slot_of, test_names_of, test_slots_of, clean_of, finish_of, spell_of, entry_of, type_of, write_names_of, write_slots_of, write_answer_of};
 
 use machine::{Machine, Problem, Stop};
 use types::{Name, NodeRef, Place};
@@ -62,16 +64,29 @@ fn slot(walk: &mut Machine, j: u32) -> Result<(), Stop>
     settle(walk, NodeRef(t), Problem::UntypedExpression, Place(p), None)
 }
 
+// The step at each of n numbers, in order: whatever definition each turn follows, if a stopped machine passes through it, the row follows too.
+#[tactic(auto, using(machine::specs::Seen::still, machine::specs::Still::tests, crate::specs::Still::still, crate::proofs::Laws::turns), unfolding(forms::specs::Forms::then))]
+fn each<F: Fn(&mut Machine, u32) -> Result<(), Stop>>(
+    walk: &mut Machine,
+    n: u32,
+    step: F,
+) -> Result<(), Stop>
+    requires { F.IsAlwaysCallable step }
+    ensures { (f : ℕ → Mach → Mach) → ((j : ℕ) (m : Mach) → Halted m → f j m ≡ m) → ((w : _) (w' : _) (j : ℕ) (r : _) → F.post step w j r w' → (walked r w'.now ≡ f j (machine w.now)) × Kept w.now w'.now) → (walked result walk.new ≡ each_of f n 0 (machine walk.old)) × Kept walk.old walk.new }
+{
+    for j in 0..n {
+        step(walk, j)?;
+    }
+    Ok(())
+}
+
 // The names met, in order.
 #[tactic(auto, using(machine::specs::Seen::still, machine::specs::Still::tests, crate::specs::Still::still, crate::proofs::Laws::turns), unfolding(crate::specs::Finisher::test_names_of, forms::specs::Forms::then))]
 fn test_names(walk: &mut Machine) -> Result<(), Stop>
     ensures value { walked result walk.new ≡ test_names_of (machine walk.old) }
     ensures kept { Kept walk.old walk.new }
 {
-    for j in 0..walk.met {
-        name(walk, j)?;
-    }
-    Ok(())
+    each(walk, walk.met, name)
 }
 
 // The slots, in order.
@@ -80,10 +95,7 @@ fn test_slots(walk: &mut Machine) -> Result<(), Stop>
     ensures value { walked result walk.new ≡ test_slots_of (machine walk.old) }
     ensures kept { Kept walk.old walk.new }
 {
-    for j in 0..walk.slots {
-        slot(walk, j)?;
-    }
-    Ok(())
+    each(walk, walk.slots, slot)
 }
 
 // Whether nothing is listed.
@@ -162,10 +174,7 @@ fn write_names(walk: &mut Machine) -> Result<(), Stop>
     ensures value { walked result walk.new ≡ write_names_of (machine walk.old) }
     ensures kept { Kept walk.old walk.new }
 {
-    for j in 0..walk.met {
-        entry(walk, j)?;
-    }
-    Ok(())
+    each(walk, walk.met, entry)
 }
 
 #[tactic(auto, using(machine::specs::Seen::still, machine::specs::Still::tests, crate::specs::Still::still, crate::proofs::Laws::turns), unfolding(crate::specs::Finisher::write_slots_of, forms::specs::Forms::then))]
@@ -173,10 +182,7 @@ fn write_slots(walk: &mut Machine) -> Result<(), Stop>
     ensures value { walked result walk.new ≡ write_slots_of (machine walk.old) }
     ensures kept { Kept walk.old walk.new }
 {
-    for j in 0..walk.slots {
-        slot_type(walk, j)?;
-    }
-    Ok(())
+    each(walk, walk.slots, slot_type)
 }
 
 // The types of names and slots are written, after the bytes so far.
