@@ -1,10 +1,8 @@
 -- Laws that the proofs of the machine's steps cite: what the unifier's answers do, and the recursive
 -- readers at a number of levels.
-use Rattle.std.proofs.Common.{ℕ, zero, suc, ◌+◌, ◌-◌, ◌*◌, ◌/◌, ◌%◌, ◌≤◌, ◌<◌, sym, arith, sub-one, length-take-le, List, [], ◌∷◌, ◌++◌, ◌≡◌, ap, ap₂, ◌∙◌, refl, eqb, length, take, drop, set, mul-le-mul_right, le_of_lt, drop_of_length-le}
-use Prim.Native.Nat.{min}
-use Rattle.std.proofs.Math.Decide.{dec_lt}
-use Rattle.std.proofs.Math.Seq.{take_all, take_at, drop_at, set_out}
-use Rattle.std.proofs.lemmas.List.{take-set-le, drop-set-add, drop_more}
+use Rattle.std.proofs.Common.{ℕ, zero, suc, ◌+◌, ◌-◌, ◌/◌, ◌%◌, ◌≤◌, ◌<◌, sym, arith, sub-one, List, ◌≡◌, ap, ◌∙◌, refl, eqb, length, drop, set, drop_of_length-le}
+use Rattle.std.proofs.Math.Seq.{set_out}
+use Rattle.std.proofs.lemmas.List.{drop_more}
 use Rattle.meter.specs.Meter.{Out, M, ret, fail}
 use Rattle.unification.specs.Arena as A
 use Rattle.unification.specs.Make.{build}
@@ -32,7 +30,7 @@ use Rattle.machine.specs.Seen.{machine, made_of, unmade, halted, stop_number}
 use Rattle.machine.specs.declared.Machine.{Machine}
 use Rattle.machine.specs.Types.{atom_of, type_head, skip_by, skip_of, lift_by, lift_of, notes_by, notes_of, times_of}
 use Rattle.machine.specs.Scripts.{item_of, items_of}
-use Rattle.machine.specs.Machine.{Mach, whole, with_st, on_st, expect_of, stopped_of, grown_of, left_of, grown_by, settled_by, judged_by, list_of, put_of, make_of, emit_of, two_of, four_of}
+use Rattle.machine.specs.Machine.{Mach, whole, with_st, on_st, expect_of, stopped_of, grown_of, left_of, grown_by, settled_by, judged_by, list_of, make_of, emit_of, two_of, four_of}
 
 -- ---- four bytes, the lowest first
 pub four_bytes : (v : ℕ) (m : Mach) → four_of v m ≡ emit_of (v / 16777216 % 256) (emit_of (v / 65536 % 256) (emit_of (v / 256 % 256) (emit_of (v % 256) m)))
