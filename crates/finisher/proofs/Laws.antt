@@ -69,4 +69,4 @@ each_turn f u i m l = let e : u - i ≡ suc (u - (i + 1)) = omega arith in rw e
 pub ruleset turns = (each_end, each_turn)
 
 pub kept_then : {a b c : Machine} → Kept a b → Kept b c → Kept a c
-kept_then x y = record { formula = y.formula ∙ x.formula; environment = y.environment ∙ x.environment; size = y.size ∙ x.size; work = y.work ∙ x.work; output = y.output ∙ x.output }
+kept_then x y = record { formula = y.formula ∙ x.formula; environment = y.environment ∙ x.environment; arena = y.arena ∙ x.arena; book = y.book ∙ x.book; output = y.output ∙ x.output }

@@ -12,12 +12,12 @@ returns-then-walk-clause-value c = grind (arith, tests)
 
 pub returns-in-Ok-clause-value : goal.returns-in-Ok-clause-value
 unfolding stopped_of bytes_of over_of test
-returns-in-Ok-clause-value c = let e = rw c.take-arena.ensures.value at c.put-laid.ensures in grind (arith, spells c.args.walk.now c.args.t.0 c.put-laid.result c.put-laid.new.left c.put-laid.new.page c.if-walk.false e)
+returns-in-Ok-clause-value c = let e = rw c.take-arena.ensures.value at c.put-laid.ensures.answer in grind (arith, spells c.args.walk.now c.args.t.0 c.put-laid.result c.put-laid.new.left c.put-laid.new.page c.if-walk.false e)
 
 pub returns-in-Err-Full-clause-value : goal.returns-in-Err-Full-clause-value
 unfolding stopped_of bytes_of over_of test
-returns-in-Err-Full-clause-value c = let e = rw c.take-arena.ensures.value at c.put-laid.ensures in grind (arith, spells c.args.walk.now c.args.t.0 c.put-laid.result c.put-laid.new.left c.put-laid.new.page c.if-walk.false e)
+returns-in-Err-Full-clause-value c = let e = rw c.take-arena.ensures.value at c.put-laid.ensures.answer in grind (arith, spells c.args.walk.now c.args.t.0 c.put-laid.result c.put-laid.new.left c.put-laid.new.page c.if-walk.false e)
 
 pub returns-in-Err-Spent-clause-value : goal.returns-in-Err-Spent-clause-value
 unfolding stopped_of bytes_of over_of test
-returns-in-Err-Spent-clause-value c = let e = rw c.take-arena.ensures.value at c.put-laid.ensures in grind (arith, spells c.args.walk.now c.args.t.0 c.put-laid.result c.put-laid.new.left c.put-laid.new.page c.if-walk.false e)
+returns-in-Err-Spent-clause-value c = let e = rw c.take-arena.ensures.value at c.put-laid.ensures.answer in grind (arith, spells c.args.walk.now c.args.t.0 c.put-laid.result c.put-laid.new.left c.put-laid.new.page c.if-walk.false e)
