@@ -6,7 +6,7 @@ use formula::FormError;
 use std::io;
 use types::Fault;
 
-// A line for a form. malformed: the number of a malformed record.
+// A line for a form. malformed: the number of a malformed record, which is printed.
 fn tell(rt: &impl Print, malformed: u8, form: Result<(), FormError>, what: &str) -> io::Result<()> {
     let (number, place) = match form {
         Ok(()) => (0, 0),

@@ -31,7 +31,7 @@ impl Bytes {
     }
 }
 
-// The value of an upper-case hexadecimal digit.
+// The value of an upper-case hexadecimal digit: std's `to_digit` takes lower-case ones too, which end a field here.
 fn digit(byte: u8) -> Option<u8> {
     match byte {
         b'0'..=b'9' => Some(byte - b'0'),

@@ -118,9 +118,10 @@ fn conclude(verdict: Verdict, budget: u64, walk: &Machine) -> Answer
 }
 
 // After the tests: problems or no room as they stand; else the typing's entries are written.
-#[tactic(auto, using(machine::specs::Still::tests, crate::specs::Stops::verdict_stops, crate::proofs::Laws::judge_clean), unfolding(forms::specs::Forms::then))]
+#[tactic(auto, using(machine::specs::Still::tests, crate::specs::Stops::verdict_stops, crate::proofs::Laws::judge_clean, crate::proofs::Words::words_stay), unfolding(forms::specs::Forms::then))]
 pub fn judge(walk: &mut Machine, budget: u64) -> Answer
     ensures value { judged result walk.new.output.now ≡ judge_of budget (machine walk.old) }
+    ensures words { (walk.new.arena.now ≡ walk.old.arena.now) × (walk.new.book.now ≡ walk.old.book.now) }
     ensures kept { Kept walk.old walk.new }
 {
     if !finisher::clean(walk) {

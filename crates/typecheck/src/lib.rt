@@ -14,7 +14,7 @@ use machine::Machine;
 use runner::{Answer, Input, Refusal};
 
 // The walk, the tests and the answer over a part of the work slice that is just the arena and the book. The book is empty at first but for the
-// environment's types.
+// environment's types. Its parameters are what `infer` was given, as at `infer_formula`.
 #[tactic(auto, using(machine::specs::Seen::still, finisher::specs::Still::still, runner::specs::Stops::judge_stops), unfolding(runner::specs::Run::run_of, forms::specs::Forms::then))]
 fn walk(
     formula: &[u8],
