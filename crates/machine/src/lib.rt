@@ -5,7 +5,7 @@
 ghost use Rattle.std.specs.Prelude.{◌≡◌, ℕ, ◌+◌, ◌*◌, ◌-◌, ◌<◌, ◌≤◌, List, length, get_or, set};
 ghost use Rattle.types.specs.Code.{atom_is};
 ghost use Rattle.unification.specs.Arena.{solved};
-ghost use Rattle.unifier.specs.Answers.{told};
+ghost use Rattle.unifier.specs.Answers.{told, spared};
 ghost use Rattle.machine.specs.Machine.{on_st, start_of, placed_of, passed_of, gave_of, bound_of, paid_of, enter_of, grown_of, cell, word_of, put_of, emit_of, two_of, four_of, list_of, make_of, expect_of, leave_of, remember_of, enrol_of, push_bound_of};
 ghost use Rattle.machine.specs.Types.{skip_of, atom_of, lift_of, free_of, bound_identifier_of, note_of, noted_of, notes_of, meets_of, spelled_of, ascription_of, claim_of, declaration_by, declaration_of, declare_of};
 ghost use Rattle.machine.specs.Scripts.{chosen_of, place_of, item_of, play_of, parts_of};
@@ -350,9 +350,10 @@ impl Machine<'_, '_> {
 
     // ---- the arena
 
-    // Whether no unknown remains below a reference.
+    // Whether no unknown remains below a reference. With no answer the budget stays as it was.
     pub fn solved(&self, t: NodeRef, left: &mut u64) -> Result<bool, Halt>
-        ensures { told result left.new ≡ solved (machine self.now).arena self.now.nodes t.0 left.old }
+        ensures answer { told result left.new ≡ solved (machine self.now).arena self.now.nodes t.0 left.old }
+        ensures spared { spared result left.old left.new }
     {
         unifier::solved(self.arena, self.nodes, t, left)
     }
