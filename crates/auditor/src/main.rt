@@ -103,51 +103,50 @@ fn small(rt: &impl Print) -> io::Result<()> {
     infer_amply(rt, "10 an extension of nothing", b"\x05\x00\x00", b"")
 }
 
-// 64 and 65 negations of a constant.
-fn nested(rt: &HostRuntime) -> io::Result<()> {
-    let alloc = rt.alloc();
-    for count in [64, 65] {
-        let mut formula = b"\x25".repeat(alloc, count)?;
-        formula.push(0x20)?;
-        let case = format!(in alloc; "11 {count} negations")?;
-        infer_amply(rt, case.as_str(), formula.as_slice(), b"")?;
-    }
-    Ok(())
+fn nested(rt: &impl Print) -> io::Result<()> {
+    let mut inside = [0x25u8; 65];
+    inside[64] = 0x20;
+    infer_amply(rt, "11 64 negations", &inside, b"")?;
+    let mut beyond = [0x25u8; 66];
+    beyond[65] = 0x20;
+    infer_amply(rt, "11 65 negations", &beyond, b"")
 }
 
 // ---- type text
 
-fn read(rt: &impl Print, case: &str, text: &str) -> io::Result<()> {
+fn read(rt: &impl Print, case: &str, text: &[u8]) -> io::Result<()> {
     let mut page = [0u8; 64];
     let mut place = 0u64;
     let mut length = 0u64;
-    let number = host::typecheck_read_text(
-        text.as_bytes(),
-        b"",
-        &mut page,
-        &mut place,
-        &mut length,
-    );
+    let number = host::typecheck_read_text(text, b"", &mut page, &mut place, &mut length);
     print!(rt; "{case}: number {number}, place {place}, length {length}")?;
     say_bytes(rt, &page, length)
 }
 
 fn texts(rt: &impl Print) -> io::Result<()> {
-    read(rt, "12 (ℤ)", "(ℤ)")?;
-    read(rt, "12 ℤ×", "ℤ×")
+    read(rt, "12 (ℤ)", "(ℤ)".as_bytes())?;
+    read(rt, "12 ℤ×", "ℤ×".as_bytes())
 }
 
-// 32 and 33 powers of ℤ.
-fn powers(rt: &HostRuntime) -> io::Result<()> {
-    let alloc = rt.alloc();
-    for count in [32, 33] {
-        let opened = "ℙ(".repeat(alloc, count)?;
-        let closed = ")".repeat(alloc, count)?;
-        let text = format!(in alloc; "{opened}ℤ{closed}")?;
-        let case = format!(in alloc; "12 {count} powers")?;
-        read(rt, case.as_str(), text.as_str())?;
+// So many powers begin at a text's start, and ℤ stands behind them: four bytes a power, then three. What follows stays.
+fn nest(text: &mut [u8], powers: usize) {
+    let (begins, rest) = text.split_at_mut(text.len().min(powers.saturating_mul(4)));
+    for sign in begins.chunks_exact_mut(4) {
+        sign.copy_from_slice("ℙ(".as_bytes());
     }
-    Ok(())
+    if rest.len() >= 3 {
+        rest[..3].copy_from_slice("ℤ".as_bytes());
+    }
+}
+
+// 32 and 33 powers of ℤ, in pages of their length: this program takes no memory.
+fn powers(rt: &impl Print) -> io::Result<()> {
+    let mut inside = [b')'; 163];
+    nest(&mut inside, 32);
+    read(rt, "12 32 powers", &inside)?;
+    let mut beyond = [b')'; 168];
+    nest(&mut beyond, 33);
+    read(rt, "12 33 powers", &beyond)
 }
 
 fn main(rt: HostRuntime) -> io::Result<()> {

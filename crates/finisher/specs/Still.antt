@@ -4,7 +4,7 @@ use Rattle.std.proofs.Common.{◌∙◌, ap, ne_eqb}
 use Rattle.forms.specs.Forms.{test, then}
 use Rattle.machine.specs.Machine.{Mach, cell, word_of, two_of, four_of}
 use Rattle.machine.specs.Still.{Halted, test_no, test-both, still_emit, still_two, still_four}
-use Rattle.finisher.specs.Finisher.{settle_of, name_of, slot_of, spell_of, entry_of, type_of, each_of, test_names_of, test_slots_of, clean_of, finish_of, write_slots_of}
+use Rattle.finisher.specs.Finisher.{settle_of, name_of, slot_of, spell_of, entry_of, type_of, each_of, test_names_of, test_slots_of, clean_of, finish_of, write_names_of, write_slots_of, write_answer_of}
 
 pub still_each : (f : ℕ → Mach → Mach) → ((j : ℕ) (m : Mach) → Halted m → f j m ≡ m) → (n j : ℕ) (m : Mach) → Halted m → each_of f n j m ≡ m
 unfolding each_of
@@ -70,5 +70,13 @@ still_finish m h =
 pub still_written : (m : Mach) → Halted m → write_slots_of m ≡ m
 unfolding write_slots_of
 still_written m h = still_types m.st.slots 0 m h
+
+still_listed : (m : Mach) → Halted m → write_names_of m ≡ m
+unfolding write_names_of
+still_listed m h = still_entries m.st.met 0 m h
+
+pub still_answer : (m : Mach) → Halted m → write_answer_of m ≡ m
+unfolding write_answer_of then
+still_answer m h = ap write_slots_of (still_listed m h) ∙ still_written m h
 
 pub ruleset still = (still_names, still_slots, still_entries, still_types, still_tested, still_finish, still_written)

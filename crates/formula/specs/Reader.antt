@@ -15,6 +15,11 @@ use Rattle.types.specs.Limits.{max_slots, max_opened}
 abbrev pub Out : Type 0
 Out = Result St (Fault Place)
 
+-- how the code answers it: the state stands where it was lent, or there is a fault
+unfoldable pub stood : Result Unit (Fault Place) → St → Out
+stood (Ok u) st = Ok st
+stood (Err f) st = Err f
+
 -- ---- reading: a value and the state after it, or the first fault
 
 pub data Got (A : Type 0) : Type 0 where

@@ -6,7 +6,7 @@ ghost use Rattle.std.specs.Prelude.{◌≡◌, ◌≤◌};
 ghost use Rattle.types.specs.Record.{reach};
 ghost use Rattle.types.specs.Limits.{max_names};
 ghost use Rattle.formula.specs.declared.FormError.TheVariants.{At};
-ghost use Rattle.formula.specs.Reader.{own_of, declare_of, type_in, spelling_in, forget};
+ghost use Rattle.formula.specs.Reader.{stood, own_of, declare_of, type_in, spelling_in, forget};
 ghost use Rattle.formula.specs.Parse.{decl_at, decls_at, expr_at, exprs_at, pred_at, preds_at, target_in, targets_at, pair_in, pairs_at, formula_at, parse_of, form_of};
 ghost use Rattle.formula.specs.EnvParse.{entry_at, environment_of};
 ghost use Rattle.formula.specs.EnvTold.{answer_of, told_of};
@@ -23,36 +23,30 @@ pub struct St {
     pub opened: u32,
 }
 
-// ---- the reader's state
+// ---- the reader's state, which each reading moves on in place: as a value, handed on by every record, it was copied at each (literals 3.3 s for 1.0 s).
+// What stands there after a fault says nothing (`stood`).
 
 // A record that owns a slot, and whose head ends at e.
-#[tactic(auto, unfolding(crate::specs::Reader::own_of))]
-fn own(e: Place, st: St) -> Result<St, Fault<Place>>
-    ensures { result ≡ own_of e st }
+#[tactic(auto, unfolding(crate::specs::Reader::own_of, crate::specs::Reader::stood))]
+fn own(e: Place, st: &mut St) -> Result<(), Fault<Place>>
+    ensures { stood result st.new ≡ own_of e st.old }
 {
     if st.slots < MAX_SLOTS {
-        return Ok(St {
-            at: e,
-            slots: st.slots + 1,
-            ..st
-        });
+        st.at = e;
+        st.slots += 1;
+        return Ok(());
     }
     Err(Fault::Beyond(st.at))
 }
 
 // A declaration owns a slot and is open from here on.
-#[tactic(auto, unfolding(crate::specs::Reader::declare_of, crate::specs::Reader::own_of))]
-fn declare(e: Place, st: St) -> Result<St, Fault<Place>>
-    ensures { result ≡ declare_of e st }
+#[tactic(auto, unfolding(crate::specs::Reader::declare_of, crate::specs::Reader::own_of, crate::specs::Reader::stood))]
+fn declare(e: Place, st: &mut St) -> Result<(), Fault<Place>>
+    ensures { stood result st.new ≡ declare_of e st.old }
 {
     if st.opened < MAX_OPENED {
-        return own(
-            e,
-            St {
-                opened: st.opened + 1,
-                ..st
-            },
-        );
+        st.opened += 1;
+        return own(e, st);
     }
     Err(Fault::Beyond(st.at))
 }
@@ -67,33 +61,34 @@ struct Reader<'a> {
 impl Reader<'_> {
     // ---- types and declarations. left: the levels of records that remain, the next record's included
 
-    #[tactic(auto, using(crate::specs::Steps::type_code), unfolding(crate::specs::Steps::type_out, crate::specs::Reader::moved))]
-    fn read_type(self, left: u32, st: St) -> Result<St, Fault<Place>>
-        ensures { result ≡ forget (type_in self.entry.names (reach self.entry.s.now) left st) }
+    #[tactic(auto, using(crate::specs::Steps::type_code), unfolding(crate::specs::Steps::type_out, crate::specs::Reader::moved, crate::specs::Reader::stood))]
+    fn read_type(&self, left: u32, st: &mut St) -> Result<(), Fault<Place>>
+        ensures { stood result st.new ≡ forget (type_in self.now.names (reach self.now.s.now) left st.old) }
     {
-        let at = types::type_end(self.s, self.names, st.at, left)?;
-        Ok(St { at, ..st })
+        st.at = types::type_end(self.s, self.names, st.at, left)?;
+        Ok(())
     }
 
     // A type, or 4F.
-    #[tactic(auto, using(crate::specs::Steps::spelling_code), unfolding(crate::specs::Steps::spelling_out, crate::specs::Reader::moved))]
-    fn read_spelling(self, left: u32, st: St) -> Result<St, Fault<Place>>
-        ensures { result ≡ forget (spelling_in self.entry.names (reach self.entry.s.now) left st) }
+    #[tactic(auto, using(crate::specs::Steps::spelling_code), unfolding(crate::specs::Steps::spelling_out, crate::specs::Reader::moved, crate::specs::Reader::stood))]
+    fn read_spelling(&self, left: u32, st: &mut St) -> Result<(), Fault<Place>>
+        ensures { stood result st.new ≡ forget (spelling_in self.now.names (reach self.now.s.now) left st.old) }
     {
         match heads::byte_at(self.s, st.at) {
             Some((0x4F, at)) => {
                 if left == 0 {
                     return Err(Fault::Beyond(st.at));
                 }
-                Ok(St { at, ..st })
+                st.at = at;
+                Ok(())
             }
             _ => self.read_type(left, st),
         }
     }
 
-    #[tactic(auto, using(crate::specs::Steps::decl_code), unfolding(crate::specs::Steps::record_out, crate::specs::Steps::decl_out, crate::specs::Reader::after))]
-    fn read_decl(self, left: u32, st: St) -> Result<St, Fault<Place>>
-        ensures { result ≡ forget (decl_at self.entry.names (reach self.entry.s.now) left st) }
+    #[tactic(auto, using(crate::specs::Steps::decl_code), unfolding(crate::specs::Steps::record_out, crate::specs::Steps::decl_out, crate::specs::Reader::after, crate::specs::Reader::stood))]
+    fn read_decl(&self, left: u32, st: &mut St) -> Result<(), Fault<Place>>
+        ensures { stood result st.new ≡ forget (decl_at self.now.names (reach self.now.s.now) left st.old) }
     {
         let h = heads::decl_head(self.s, st.at).ok_or(Fault::Malformed(st.at))?;
         if left == 0 {
@@ -101,32 +96,37 @@ impl Reader<'_> {
         }
         match h {
             DeclHead::Plain(e) => declare(e, st),
-            DeclHead::Typed(e) => self.read_type(left - 1, declare(e, st)?),
-            DeclHead::Annotated(e) => self.read_spelling(left - 1, declare(e, st)?),
+            DeclHead::Typed(e) => {
+                declare(e, st)?;
+                self.read_type(left - 1, st)
+            }
+            DeclHead::Annotated(e) => {
+                declare(e, st)?;
+                self.read_spelling(left - 1, st)
+            }
         }
     }
 
     // Each row of records is read by a `for` of its own. In `read_exprs` and `read_preds` a closure handed to one function for all would call back into
-    // the cycle `reading`, and needs clauses of its own there, longer than the loop. The other three have the same form: over `try_fold`, tried in
-    // `read_targets`, `many_steps` does not close the equation.
-    #[tactic(auto, using(crate::specs::Steps::many_steps), unfolding(crate::specs::Parse::decls_at))]
-    fn read_decls(self, left: u32, n: u8, st: St) -> Result<St, Fault<Place>>
-        ensures { result ≡ forget (decls_at self.entry.names (reach self.entry.s.now) left n st) }
+    // the cycle `reading`, and needs clauses of its own there, longer than the loop. The other three have the same form: of a state that a closure changes
+    // nothing is known after `try_for_each` (as at `machine::declare`), and over a state by value `try_fold`, tried in `read_targets`, did not close.
+    #[tactic(auto, using(crate::specs::Steps::many_steps), unfolding(crate::specs::Parse::decls_at, crate::specs::Reader::stood))]
+    fn read_decls(&self, left: u32, n: u8, st: &mut St) -> Result<(), Fault<Place>>
+        ensures { stood result st.new ≡ forget (decls_at self.now.names (reach self.now.s.now) left n st.old) }
     {
-        let mut cur = st;
         for _ in 0..n {
-            cur = self.read_decl(left, cur)?;
+            self.read_decl(left, st)?;
         }
-        Ok(cur)
+        Ok(())
     }
 
     // ---- expressions and predicates
 
     // bare: where no 0C may stand.
     #[cycle(reading)]
-    #[tactic(auto, using(crate::specs::Steps::expr_code), unfolding(crate::specs::Steps::record_out, crate::specs::Steps::expr_out, crate::specs::Reader::after, crate::specs::Reader::moved, crate::specs::Reader::closed_of, crate::specs::Reader::closed, crate::specs::Parse::exprs_at))]
-    fn read_expr(self, bare: bool, left: u32, st: St) -> Result<St, Fault<Place>>
-        ensures { result ≡ forget (expr_at left self.entry.names (reach self.entry.s.now) bare st) }
+    #[tactic(auto, using(crate::specs::Steps::expr_code), unfolding(crate::specs::Steps::record_out, crate::specs::Steps::expr_out, crate::specs::Reader::after, crate::specs::Reader::moved, crate::specs::Reader::closed_of, crate::specs::Reader::closed, crate::specs::Reader::stood, crate::specs::Parse::exprs_at))]
+    fn read_expr(&self, bare: bool, left: u32, st: &mut St) -> Result<(), Fault<Place>>
+        ensures { stood result st.new ≡ forget (expr_at left self.now.names (reach self.now.s.now) bare st.old) }
     {
         let h = heads::expr_head(self.s, self.names, bare, st.at).ok_or(Fault::Malformed(st.at))?;
         if left == 0 {
@@ -138,156 +138,168 @@ impl Reader<'_> {
             | ExprHead::Bound(_, e)
             | ExprHead::Literal(e)
             | ExprHead::Atomic(_, e) => own(e, st),
-            ExprHead::Extension(n, e) => self.read_exprs(l, n, own(e, st)?),
-            ExprHead::Truth(e) => self.read_pred(l, own(e, st)?),
-            ExprHead::Binary(_, e) => {
-                let a = self.read_expr(false, l, own(e, st)?)?;
-                self.read_expr(false, l, a)
+            ExprHead::Extension(n, e) => {
+                own(e, st)?;
+                self.read_exprs(l, n, st)
             }
-            ExprHead::Associative(_, n, e) => self.read_exprs(l, n, own(e, st)?),
-            ExprHead::Unary(_, e) => self.read_expr(false, l, own(e, st)?),
+            ExprHead::Truth(e) => {
+                own(e, st)?;
+                self.read_pred(l, st)
+            }
+            ExprHead::Binary(_, e) => {
+                own(e, st)?;
+                self.read_expr(false, l, st)?;
+                self.read_expr(false, l, st)
+            }
+            ExprHead::Associative(_, n, e) => {
+                own(e, st)?;
+                self.read_exprs(l, n, st)
+            }
+            ExprHead::Unary(_, e) => {
+                own(e, st)?;
+                self.read_expr(false, l, st)
+            }
             ExprHead::Quantified(_, n, e) => {
-                let ds = self.read_decls(l, n, own(e, st)?)?;
-                let q = self.read_pred(l, ds)?;
-                let end = self.read_expr(false, l, q)?;
-                Ok(St {
-                    opened: st.opened,
-                    ..end
-                })
+                let opened = st.opened;
+                own(e, st)?;
+                self.read_decls(l, n, st)?;
+                self.read_pred(l, st)?;
+                self.read_expr(false, l, st)?;
+                st.opened = opened;
+                Ok(())
             }
             ExprHead::Ascribed(e) => {
-                let a = self.read_expr(false, l, own(e, st)?)?;
-                self.read_spelling(l, a)
+                own(e, st)?;
+                self.read_expr(false, l, st)?;
+                self.read_spelling(l, st)
             }
             ExprHead::Explicit(e) => {
-                let t = self.read_type(l, St { at: e, ..st })?;
-                self.read_expr(true, l, t)
+                st.at = e;
+                self.read_type(l, st)?;
+                self.read_expr(true, l, st)
             }
         }
     }
 
     #[cycle(reading)]
-    #[tactic(auto, using(crate::specs::Steps::many_steps), unfolding(crate::specs::Parse::exprs_at))]
-    fn read_exprs(self, left: u32, n: u16, st: St) -> Result<St, Fault<Place>>
-        ensures { result ≡ forget (exprs_at left self.entry.names (reach self.entry.s.now) n st) }
+    #[tactic(auto, using(crate::specs::Steps::many_steps), unfolding(crate::specs::Parse::exprs_at, crate::specs::Reader::stood))]
+    fn read_exprs(&self, left: u32, n: u16, st: &mut St) -> Result<(), Fault<Place>>
+        ensures { stood result st.new ≡ forget (exprs_at left self.now.names (reach self.now.s.now) n st.old) }
     {
-        let mut cur = st;
         for _ in 0..n {
-            cur = self.read_expr(false, left, cur)?;
+            self.read_expr(false, left, st)?;
         }
-        Ok(cur)
+        Ok(())
     }
 
     #[cycle(reading)]
-    #[tactic(auto, using(crate::specs::Steps::pred_code), unfolding(crate::specs::Steps::record_out, crate::specs::Steps::pred_out, heads::specs::Heads::pred_end, crate::specs::Reader::after, crate::specs::Reader::moved, crate::specs::Reader::closed_of, crate::specs::Reader::closed, crate::specs::Parse::exprs_at, crate::specs::Parse::preds_at))]
-    fn read_pred(self, left: u32, st: St) -> Result<St, Fault<Place>>
-        ensures { result ≡ forget (pred_at left self.entry.names (reach self.entry.s.now) st) }
+    #[tactic(auto, using(crate::specs::Steps::pred_code), unfolding(crate::specs::Steps::record_out, crate::specs::Steps::pred_out, heads::specs::Heads::pred_end, crate::specs::Reader::after, crate::specs::Reader::moved, crate::specs::Reader::closed_of, crate::specs::Reader::closed, crate::specs::Reader::stood, crate::specs::Parse::exprs_at, crate::specs::Parse::preds_at))]
+    fn read_pred(&self, left: u32, st: &mut St) -> Result<(), Fault<Place>>
+        ensures { stood result st.new ≡ forget (pred_at left self.now.names (reach self.now.s.now) st.old) }
     {
         let h = heads::pred_head(self.s, st.at).ok_or(Fault::Malformed(st.at))?;
         if left == 0 {
             return Err(Fault::Beyond(st.at));
         }
         let l = left - 1;
-        let begin = St {
-            at: heads::pred_end(h),
-            ..st
-        };
+        st.at = heads::pred_end(h);
         match h {
-            PredHead::Constant(_) | PredHead::Variable(_) => Ok(begin),
+            PredHead::Constant(_) | PredHead::Variable(_) => Ok(()),
             PredHead::Relational(..) => {
-                let a = self.read_expr(false, l, begin)?;
-                self.read_expr(false, l, a)
+                self.read_expr(false, l, st)?;
+                self.read_expr(false, l, st)
             }
             PredHead::Connective(_) => {
-                let a = self.read_pred(l, begin)?;
-                self.read_pred(l, a)
+                self.read_pred(l, st)?;
+                self.read_pred(l, st)
             }
-            PredHead::Junction(n, _) => self.read_preds(l, n, begin),
-            PredHead::Negation(_) => self.read_pred(l, begin),
+            PredHead::Junction(n, _) => self.read_preds(l, n, st),
+            PredHead::Negation(_) => self.read_pred(l, st),
             PredHead::Quantification(n, _) => {
-                let ds = self.read_decls(l, n, begin)?;
-                let end = self.read_pred(l, ds)?;
-                Ok(St {
-                    opened: st.opened,
-                    ..end
-                })
+                let opened = st.opened;
+                self.read_decls(l, n, st)?;
+                self.read_pred(l, st)?;
+                st.opened = opened;
+                Ok(())
             }
-            PredHead::Simple(_) => self.read_expr(false, l, begin),
-            PredHead::Multiple(n, _) | PredHead::Application(n, _) => self.read_exprs(l, n, begin),
+            PredHead::Simple(_) => self.read_expr(false, l, st),
+            PredHead::Multiple(n, _) | PredHead::Application(n, _) => self.read_exprs(l, n, st),
         }
     }
 
     #[cycle(reading)]
-    #[tactic(auto, using(crate::specs::Steps::many_steps), unfolding(crate::specs::Parse::preds_at))]
-    fn read_preds(self, left: u32, n: u16, st: St) -> Result<St, Fault<Place>>
-        ensures { result ≡ forget (preds_at left self.entry.names (reach self.entry.s.now) n st) }
+    #[tactic(auto, using(crate::specs::Steps::many_steps), unfolding(crate::specs::Parse::preds_at, crate::specs::Reader::stood))]
+    fn read_preds(&self, left: u32, n: u16, st: &mut St) -> Result<(), Fault<Place>>
+        ensures { stood result st.new ≡ forget (preds_at left self.now.names (reach self.now.s.now) n st.old) }
     {
-        let mut cur = st;
         for _ in 0..n {
-            cur = self.read_pred(left, cur)?;
+            self.read_pred(left, st)?;
         }
-        Ok(cur)
+        Ok(())
     }
 
     // ---- formulas
 
-    #[tactic(auto, using(crate::specs::Steps::target_code), unfolding(crate::specs::Steps::target_out))]
-    fn read_target(self, st: St) -> Result<St, Fault<Place>>
-        ensures { result ≡ forget (target_in self.entry.names (reach self.entry.s.now) st) }
+    #[tactic(auto, using(crate::specs::Steps::target_code), unfolding(crate::specs::Steps::target_out, crate::specs::Reader::stood))]
+    fn read_target(&self, st: &mut St) -> Result<(), Fault<Place>>
+        ensures { stood result st.new ≡ forget (target_in self.now.names (reach self.now.s.now) st.old) }
     {
         let (_, e) = heads::target_at(self.s, self.names, st.at).ok_or(Fault::Malformed(st.at))?;
         own(e, st)
     }
 
-    #[tactic(auto, using(crate::specs::Steps::many_steps), unfolding(crate::specs::Parse::targets_at))]
-    fn read_targets(self, n: u8, st: St) -> Result<St, Fault<Place>>
-        ensures { result ≡ forget (targets_at self.entry.names (reach self.entry.s.now) n st) }
+    #[tactic(auto, using(crate::specs::Steps::many_steps), unfolding(crate::specs::Parse::targets_at, crate::specs::Reader::stood))]
+    fn read_targets(&self, n: u8, st: &mut St) -> Result<(), Fault<Place>>
+        ensures { stood result st.new ≡ forget (targets_at self.now.names (reach self.now.s.now) n st.old) }
     {
-        let mut cur = st;
         for _ in 0..n {
-            cur = self.read_target(cur)?;
+            self.read_target(st)?;
         }
-        Ok(cur)
+        Ok(())
     }
 
     // A target and its value.
-    #[tactic(auto, using(crate::specs::Steps::pair_code), unfolding(crate::specs::Reader::after))]
-    fn read_pair(self, left: u32, st: St) -> Result<St, Fault<Place>>
-        ensures { result ≡ forget (pair_in left self.entry.names (reach self.entry.s.now) st) }
+    #[tactic(auto, using(crate::specs::Steps::pair_code), unfolding(crate::specs::Reader::after, crate::specs::Reader::stood))]
+    fn read_pair(&self, left: u32, st: &mut St) -> Result<(), Fault<Place>>
+        ensures { stood result st.new ≡ forget (pair_in left self.now.names (reach self.now.s.now) st.old) }
     {
-        let target = self.read_target(st)?;
-        self.read_expr(false, left, target)
+        self.read_target(st)?;
+        self.read_expr(false, left, st)
     }
 
-    #[tactic(auto, using(crate::specs::Steps::many_steps), unfolding(crate::specs::Parse::pairs_at))]
-    fn read_pairs(self, left: u32, n: u8, st: St) -> Result<St, Fault<Place>>
-        ensures { result ≡ forget (pairs_at left self.entry.names (reach self.entry.s.now) n st) }
+    #[tactic(auto, using(crate::specs::Steps::many_steps), unfolding(crate::specs::Parse::pairs_at, crate::specs::Reader::stood))]
+    fn read_pairs(&self, left: u32, n: u8, st: &mut St) -> Result<(), Fault<Place>>
+        ensures { stood result st.new ≡ forget (pairs_at left self.now.names (reach self.now.s.now) n st.old) }
     {
-        let mut cur = st;
         for _ in 0..n {
-            cur = self.read_pair(left, cur)?;
+            self.read_pair(left, st)?;
         }
-        Ok(cur)
+        Ok(())
     }
 
     // The record at the start, with all that stands below it.
-    #[tactic(auto, using(crate::specs::Steps::formula_code), unfolding(crate::specs::Steps::root_out, crate::specs::Reader::after, crate::specs::Reader::moved))]
-    fn read_formula(self, st: St) -> Result<St, Fault<Place>>
-        ensures { result ≡ forget (formula_at self.entry.names (reach self.entry.s.now) st) }
+    #[tactic(auto, using(crate::specs::Steps::formula_code), unfolding(crate::specs::Steps::root_out, crate::specs::Reader::after, crate::specs::Reader::moved, crate::specs::Reader::stood))]
+    fn read_formula(&self, st: &mut St) -> Result<(), Fault<Place>>
+        ensures { stood result st.new ≡ forget (formula_at self.now.names (reach self.now.s.now) st.old) }
     {
         let h = heads::root_head(self.s, st.at).ok_or(Fault::Malformed(st.at))?;
         match h {
             Root::Expression => self.read_expr(false, LEVELS, st),
             Root::Predicate => self.read_pred(LEVELS, st),
-            Root::Becomes(n, e) => self.read_pairs(LEVELS - 1, n, St { at: e, ..st }),
+            Root::Becomes(n, e) => {
+                st.at = e;
+                self.read_pairs(LEVELS - 1, n, st)
+            }
             Root::BecomesIn(n, e) => {
-                let ts = self.read_targets(n, St { at: e, ..st })?;
-                self.read_expr(false, LEVELS - 1, ts)
+                st.at = e;
+                self.read_targets(n, st)?;
+                self.read_expr(false, LEVELS - 1, st)
             }
             Root::BecomesSuch(n, e) => {
-                let ts = self.read_targets(n, St { at: e, ..st })?;
-                let ds = self.read_decls(LEVELS - 1, n, ts)?;
-                self.read_pred(LEVELS - 1, ds)
+                st.at = e;
+                self.read_targets(n, st)?;
+                self.read_decls(LEVELS - 1, n, st)?;
+                self.read_pred(LEVELS - 1, st)
             }
         }
     }
@@ -309,20 +321,21 @@ impl From<Fault<Place>> for FormError {
 }
 
 // Tests whether a stream spells a formula inside the limits; if not, where it first fails.
-#[tactic(auto, using(crate::specs::Steps::parse_long, crate::specs::Steps::parse_code), unfolding(crate::specs::Steps::whole_out))]
+#[tactic(auto, using(crate::specs::Steps::parse_long, crate::specs::Steps::parse_code), unfolding(crate::specs::Steps::whole_out, crate::specs::Reader::stood))]
 pub fn check_formula(s: &[u8], names: u32) -> Result<(), FormError>
     ensures { result ≡ form_of (parse_of names s.now) }
 {
     if s.len() > MAX_BYTES {
         return Err(FormError::TooLong);
     }
-    let end = Reader { s, names }.read_formula(St {
+    let mut st = St {
         at: Place(0),
         slots: 0,
         opened: 0,
-    })?;
-    if (end.at.0 as usize) < s.len() {
-        return Err(FormError::At(Fault::Malformed(end.at)));
+    };
+    Reader { s, names }.read_formula(&mut st)?;
+    if (st.at.0 as usize) < s.len() {
+        return Err(FormError::At(Fault::Malformed(st.at)));
     }
     Ok(())
 }
@@ -350,8 +363,8 @@ struct Entered {
 impl Reader<'_> {
     // An entry's head: 50 and a name below the count.
     #[tactic(auto, unfolding(crate::specs::EnvParse::entry_at, heads::specs::Heads::on_part))]
-    fn entry_at(self, at: Place) -> Option<(u16, Place)>
-        ensures { result ≡ entry_at self.entry.names (reach self.entry.s.now) at }
+    fn entry_at(&self, at: Place) -> Option<(u16, Place)>
+        ensures { result ≡ entry_at self.now.names (reach self.now.s.now) at }
     {
         match heads::byte_at(self.s, at)? {
             (0x50, p) => heads::name_at(self.s, self.names, p),
@@ -361,9 +374,9 @@ impl Reader<'_> {
 
     // The entry at a place. types: the table of the entries before it.
     #[tactic(auto, using(crate::specs::EnvSteps::entry_below), unfolding(crate::specs::EnvSteps::entered_at, crate::specs::EnvSteps::entered_by, heads::specs::Heads::on_part))]
-    fn read_entry(self, types: &[u32; 256], at: Place) -> Result<Entered, Fault<Place>>
-        requires { self.names ≤ max_names }
-        ensures { result ≡ entered_at self.entry.names (reach self.entry.s.now) types.now at }
+    fn read_entry(&self, types: &[u32; 256], at: Place) -> Result<Entered, Fault<Place>>
+        requires { self.now.names ≤ max_names }
+        ensures { result ≡ entered_at self.now.names (reach self.now.s.now) types.now at }
     {
         let (name, e) = self.entry_at(at).ok_or(Fault::Malformed(at))?;
         if types[usize::from(name)] != 0 {

@@ -1,5 +1,5 @@
 -- What playing a script does.
-use Rattle.std.specs.Prelude.{ℕ, ◌+◌, ltb, List, [], ◌∷◌}
+use Rattle.std.specs.Prelude.{ℕ, ◌+◌, ltb, List, [], ◌∷◌, Option, Some, None}
 use Rattle.types.specs.declared.NodeRef.{NodeRef}
 use Rattle.types.specs.declared.Place.{Place}
 use Rattle.operators.specs.declared.Script.{Script}
@@ -47,3 +47,8 @@ play_of s p m =
     then (items_of p (items_in s) m) λ a.
     then (chosen_of (given_by s) p) λ g.
     then (gave_of g.0 a.st) λ v. with_st v a
+
+-- the script of a number, if there is one; else nothing is played, and reference 0 is handed on
+unfoldable pub play_numbered : Option Script → Parts → Mach → Mach
+play_numbered (Some s) p m = play_of s p m
+play_numbered None p m = with_st (gave_of 0 m.st) m

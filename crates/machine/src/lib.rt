@@ -5,10 +5,11 @@
 ghost use Rattle.std.specs.Prelude.{◌≡◌, ℕ, ◌+◌, ◌*◌, ◌-◌, ◌<◌, ◌≤◌, List, length, get_or, set};
 ghost use Rattle.types.specs.Code.{atom_is};
 ghost use Rattle.unification.specs.Arena.{solved};
-ghost use Rattle.unifier.specs.Answers.{told};
+ghost use Rattle.unifier.specs.Answers.{told, spared};
 ghost use Rattle.machine.specs.Machine.{on_st, start_of, placed_of, passed_of, gave_of, bound_of, paid_of, enter_of, grown_of, cell, word_of, put_of, emit_of, two_of, four_of, list_of, make_of, expect_of, leave_of, remember_of, enrol_of, push_bound_of};
 ghost use Rattle.machine.specs.Types.{skip_of, atom_of, lift_of, free_of, bound_identifier_of, note_of, noted_of, notes_of, meets_of, spelled_of, ascription_of, claim_of, declaration_by, declaration_of, declare_of};
-ghost use Rattle.machine.specs.Scripts.{chosen_of, place_of, item_of, play_of, parts_of};
+ghost use Rattle.operators.specs.Scripts.{numbered};
+ghost use Rattle.machine.specs.Scripts.{chosen_of, place_of, item_of, play_of, play_numbered, parts_of};
 ghost use Rattle.machine.specs.Seen.{machine, walked, unmade, halted, made_of, problem_number, name_number, Kept};
 
 use heads::DeclHead;
@@ -350,9 +351,10 @@ impl Machine<'_, '_> {
 
     // ---- the arena
 
-    // Whether no unknown remains below a reference.
+    // Whether no unknown remains below a reference. With no answer the budget stays as it was.
     pub fn solved(&self, t: NodeRef, left: &mut u64) -> Result<bool, Halt>
-        ensures { told result left.new ≡ solved (machine self.now).arena self.now.nodes t.0 left.old }
+        ensures answer { told result left.new ≡ solved (machine self.now).arena self.now.nodes t.0 left.old }
+        ensures spared { spared result left.old left.new }
     {
         unifier::solved(self.arena, self.nodes, t, left)
     }
@@ -710,8 +712,21 @@ impl Machine<'_, '_> {
         }
     }
 
-    // A script is played with its parts, at a record's place.
-    #[tactic(auto, using(crate::specs::Seen::still, crate::proofs::Laws::turns), unfolding(crate::specs::Scripts::play_of, crate::specs::Scripts::parts_of, forms::specs::Forms::then))]
+    // A script is played with its parts, whatever node its own begin at.
+    #[tactic(auto, using(crate::specs::Seen::still, crate::proofs::Laws::turns), unfolding(crate::specs::Scripts::play_of, forms::specs::Forms::then))]
+    pub fn play_parts(&mut self, script: Script, p: Parts) -> Result<(), Stop>
+        ensures value { walked result self.new ≡ play_of script p (machine self.old) }
+        ensures kept { Kept self.old self.new }
+    {
+        for item in script.items() {
+            self.perform(*item, p)?;
+        }
+        self.gave(chosen(script.gives(), p));
+        Ok(())
+    }
+
+    // A script is played with its parts, at a record's place. Its own nodes are those that the walk makes next.
+    #[tactic(auto, using(crate::specs::Seen::still), unfolding(crate::specs::Scripts::parts_of, forms::specs::Forms::then))]
     pub fn play(
         &mut self,
         script: Script,
@@ -722,17 +737,31 @@ impl Machine<'_, '_> {
         ensures value { walked result self.new ≡ play_of script (parts_of left.node.0 left.place.0 right.node.0 right.place.0 place.0 (machine self.old).st) (machine self.old) }
         ensures kept { Kept self.old self.new }
     {
-        let p = Parts {
-            left,
-            right,
-            place,
-            base: self.nodes,
-        };
-        for item in script.items() {
-            self.perform(*item, p)?;
+        let base = self.nodes;
+        self.play_parts(
+            script,
+            Parts {
+                left,
+                right,
+                place,
+                base,
+            },
+        )
+    }
+
+    // The script of a number is played, for whoever has numbers; past the last nothing is played, and reference 0 is handed on.
+    #[tactic(auto, using(crate::specs::Seen::still), unfolding(crate::specs::Scripts::play_numbered, forms::specs::Forms::then))]
+    pub fn play_number(&mut self, n: u8, p: Parts) -> Result<(), Stop>
+        ensures value { walked result self.new ≡ play_numbered (numbered n) p (machine self.old) }
+        ensures kept { Kept self.old self.new }
+    {
+        match Script::numbered(n) {
+            Some(script) => self.play_parts(script, p),
+            None => {
+                self.gave(NodeRef(0));
+                Ok(())
+            }
         }
-        self.gave(chosen(script.gives(), p));
-        Ok(())
     }
 }
 

@@ -6,17 +6,17 @@ use Rattle.std.specs.Prelude.{◌≡◌, Bool, false, ◌&&◌, ◌||◌, Option
 use Rattle.std.specs.Char.{is_ascii_alphabetic, is_ascii_alphanumeric}
 use Rattle.std.specs.List.{list_all, position_from, slice_get, enumerate_from}
 use Rattle.std.specs.Cmp.Lexicographic.{pointwise}
-use Rattle.std.proofs.Math.Path.{refl, sym, ap}
+use Rattle.std.proofs.Math.Path.{refl, sym, ap, subst}
 use Rattle.std.proofs.Math.Bool.{true}
 use mathlib.Core.List.{List, [], ◌∷◌}
 use Rattle.std.proofs.Math.ListN.{length}
 use Rattle.std.proofs.Math.Dec.{eqb}
-use Rattle.std.proofs.lemmas.List.{take_min, drop_min, length-take, length-take-le, length-map}
+use Rattle.std.proofs.lemmas.List.{take_min, drop_min, drop-drop, length-take, length-take-le, length-map}
 use borrow.Author.Tests.{lt-ltb, le-ltb, leb-true, leb-false, eqb-true, eqb-false, eq-eqb, ne_eqb}
 use denote.Ref.{Bor}
 use Rattle.types.specs.declared.Name.{Name}
 use Rattle.name_table.specs.Words.{between, letter, word_byte, all_word, is_word, same}
-use Rattle.name_table.specs.Table.{boolean, at, shift, seek, find, records_of, records, names_of, names, Named, good_from, good_on, good_name, good_table}
+use Rattle.name_table.specs.Table.{boolean, at, shift, seek, find, records_of, records, names_of, names, Part, Named, good_from, good_on, good_name, good_table}
 
 -- ---- bytes of words
 
@@ -156,15 +156,43 @@ unnamed-at [] n e = omega arith
 unnamed-at (r ∷ rs) zero e = absurd (let y : ◌≡◌ {A = ℕ} 0 1 = cc in omega arith)
 unnamed-at (r ∷ rs) (suc n) e = omega (arith, unnamed-at rs n e)
 
+-- a name stands behind its kind, and behind the records before that
+name_part : (f : ℕ) (l : List ℕ) (n : ℕ) → n < length (names_of f l) → Part l (get_or (names_of f l) n [])
+unfolding names_of Part
+name_part zero l n h = absurd (omega arith)
+name_part (suc f) [] n h = absurd (omega arith)
+name_part (suc f) (k ∷ l) zero h =
+    let m = min (k - 128) (length l) in
+    let y : suc m - 1 ≡ m = omega arith in
+    (1, suc m, omega arith, omega arith, ap (λ (x : ℕ). take x l) y ∙ take_min (k - 128) l)
+name_part (suc f) (k ∷ l) (suc n) h =
+    let p = name_part f (drop (k - 128) l) n (omega arith) in
+    let m = min (k - 128) (length l) in
+    let y : suc (m + p.1) - suc (m + p.0) ≡ p.1 - p.0 = omega arith in
+    let z : drop (m + p.0) l ≡ drop p.0 (drop (k - 128) l) = sym (drop-drop p.0 m l) ∙ ap (drop p.0) (drop_min (k - 128) l) in
+    (suc (m + p.0), suc (m + p.1), omega (arith, p.2), omega (arith, p.3, length-drop (k - 128) l), ap (λ (x : ℕ). take x (drop (m + p.0) l)) y ∙ ap (take (p.1 - p.0)) z ∙ p.4)
+
 pub named : (t : List ℕ) (n k : ℕ) (w : Bor (List ℕ)) → Some (k, w.now) ≡ slice_get (take 256 (records t)) n → Named t n (Some w)
 unfolding Named
 named t n k w e =
     let h = named-at (take 256 (records t)) n (k, w.now) e in
-    (omega (arith, h.0, names_counted t), h.1 ∙ ap (λ (ns : List (List ℕ)). get_or ns n []) (names_are t))
+    let below : n < length (names t) = omega (arith, h.0, names_counted t) in
+    let is : w.now ≡ get_or (names t) n [] = h.1 ∙ ap (λ (ns : List (List ℕ)). get_or ns n []) (names_are t) in
+    (below, is, subst (Part t) (sym is) (name_part 256 t n below))
 
 pub unnamed : (t : List ℕ) (n : ℕ) → None ≡ slice_get (take 256 (records t)) n → Named t n None
 unfolding Named
 unnamed t n e = omega (arith, unnamed-at (take 256 (records t)) n e, names_counted t)
+
+-- a part of the bytes is no longer than they are
+pub part-within : (t w : List ℕ) → Part t w → length w ≤ length t
+unfolding Part
+part-within t w p = omega (arith, ap length p.4, length-take (p.1 - p.0) (drop p.0 t), length-drop p.0 t)
+
+-- and so a name is no longer than its table
+pub named-within : (t : List ℕ) (n : ℕ) (w : Bor (List ℕ)) → Named t n (Some w) → length w.now ≤ length t
+unfolding Named
+named-within t n w h = part-within t w.now h.2
 
 -- ---- one name
 

@@ -92,7 +92,11 @@ good_from ns (suc f) i l = good_on ns (good_from ns f) i l
 unfoldable pub good_table : List ℕ → Bool
 good_table bytes = leb (length bytes) max_bytes && good_from (names bytes) max_names 0 bytes
 
--- w is name n, or there is none
+-- w is a part of the bytes: what stands there from some a up to some e
+unfoldable pub Part : List ℕ → List ℕ → Type 0
+Part bytes w = (a : ℕ) × (e : ℕ) × (a ≤ e) × (e ≤ length bytes) × (take (e - a) (drop a bytes) ≡ w)
+
+-- w is name n and a part of the table, or there is no such name
 unfoldable pub Named : List ℕ → ℕ → Option (Bor (List ℕ)) → Type 0
 Named bytes n None = length (names bytes) ≤ n
-Named bytes n (Some w) = (n < length (names bytes)) × (w.now ≡ get_or (names bytes) n [])
+Named bytes n (Some w) = (n < length (names bytes)) × (w.now ≡ get_or (names bytes) n []) × Part bytes w.now

@@ -64,7 +64,7 @@ pub fn find_name(table: &[u8], word: &[u8]) -> Option<Name>
     Some(Name(i as u32))
 }
 
-// The name of a number.
+// The name of a number: its bytes as they stand in the table, of which they are a part.
 pub fn name_at(table: &[u8], n: Name) -> Option<&[u8]>
     ensures { Named table.now n.0 result }
 {

@@ -1,5 +1,5 @@
 -- The scripts of the operators: what each does, one item after another, and the operand that it hands on.
-use Rattle.std.specs.Prelude.{List, [], ◌∷◌}
+use Rattle.std.specs.Prelude.{ℕ, List, [], ◌∷◌, Option, slice_get}
 use Rattle.operators.specs.declared.Item.{Item}
 use Rattle.operators.specs.declared.Item.TheVariants.{Unknown, Boolean, Integer, Power, Product, Equal}
 use Rattle.operators.specs.declared.Operand.{Operand}
@@ -97,3 +97,11 @@ given_by S.Forth = Own 2
 given_by S.Back = Own 2
 given_by S.ForthAll = Own 1
 given_by S.BackAll = Own 1
+
+-- the scripts in their order
+unfoldable pub in_order : List Script
+in_order = S.Nothing ∷ S.Integers ∷ S.Booleans ∷ S.Truth ∷ S.Succession ∷ S.EmptySet ∷ S.Identity ∷ S.FirstOf ∷ S.SecondOf ∷ S.Maplet ∷ S.Relations ∷ S.Difference ∷ S.Cartesian ∷ S.Direct ∷ S.Parallel ∷ S.DomainCut ∷ S.RangeCut ∷ S.Interval ∷ S.Arithmetic ∷ S.Application ∷ S.Image ∷ S.Cardinality ∷ S.Powerset ∷ S.Generalized ∷ S.Domain ∷ S.Range ∷ S.Extremum ∷ S.Converse ∷ S.Minus ∷ S.Set ∷ S.Power ∷ S.Equality ∷ S.Order ∷ S.Membership ∷ S.Inclusion ∷ S.Finite ∷ S.Unknown ∷ S.Relation ∷ S.Integer ∷ S.Forth ∷ S.Back ∷ S.ForthAll ∷ S.BackAll ∷ []
+
+-- the script of a number, from 0 on; past the last there is none
+unfoldable pub numbered : ℕ → Option Script
+numbered n = slice_get in_order n

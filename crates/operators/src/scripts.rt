@@ -1,14 +1,73 @@
 // The scripts: what each does, one thing after another, and the operand that it hands on. See `play` of crate `machine` for how they are read.
 
 ghost use Rattle.std.specs.Prelude.{◌≡◌};
-ghost use Rattle.operators.specs.Scripts.{items_in, given_by};
+ghost use Rattle.operators.specs.Scripts.{items_in, given_by, numbered};
 
 use crate::Item::{Boolean, Equal, Integer, Power, Product, Unknown};
 use crate::Operand::{Left, Own, Right};
 use crate::Seat::{Far, Near, Whole};
 use crate::{Item, Operand, Script};
 
+// The scripts in their order, by number from 0 on.
+const ALL: [Script; 43] = [
+    Script::Nothing,
+    Script::Integers,
+    Script::Booleans,
+    Script::Truth,
+    Script::Succession,
+    Script::EmptySet,
+    Script::Identity,
+    Script::FirstOf,
+    Script::SecondOf,
+    Script::Maplet,
+    Script::Relations,
+    Script::Difference,
+    Script::Cartesian,
+    Script::Direct,
+    Script::Parallel,
+    Script::DomainCut,
+    Script::RangeCut,
+    Script::Interval,
+    Script::Arithmetic,
+    Script::Application,
+    Script::Image,
+    Script::Cardinality,
+    Script::Powerset,
+    Script::Generalized,
+    Script::Domain,
+    Script::Range,
+    Script::Extremum,
+    Script::Converse,
+    Script::Minus,
+    Script::Set,
+    Script::Power,
+    Script::Equality,
+    Script::Order,
+    Script::Membership,
+    Script::Inclusion,
+    Script::Finite,
+    Script::Unknown,
+    Script::Relation,
+    Script::Integer,
+    Script::Forth,
+    Script::Back,
+    Script::ForthAll,
+    Script::BackAll,
+];
+
 impl Script {
+    // The script of a number; past the last there is none.
+    #[tactic(auto, unfolding(crate::specs::Scripts::numbered, crate::specs::Scripts::in_order))]
+    pub fn numbered(n: u8) -> Option<Script>
+        ensures { result ≡ numbered n }
+    {
+        let i = usize::from(n);
+        if i < ALL.len() {
+            return Some(ALL[i]);
+        }
+        None
+    }
+
     // What it does.
     #[tactic(auto, unfolding(crate::specs::Scripts::items_in))]
     pub fn items(self) -> &'static [Item]

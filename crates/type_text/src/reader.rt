@@ -16,15 +16,16 @@ use type_grammar::Token;
 use types::{Atom, Fault};
 
 // Where the reader stands, and how many operands may still nest: at 0 the next one is refused unread.
+// `left` is a byte: it bounds the recursion of every call, and so the stack, whatever a caller writes there.
 #[derive(Clone, Copy)]
 pub struct Cursor {
     pub at: usize,
-    pub left: u32,
+    pub left: u8,
 }
 
 impl Cursor {
     // The most brackets that may be open at an operand.
-    pub const MAX_DEPTH: u32 = 32;
+    pub const MAX_DEPTH: u8 = 32;
 
     // At a text's start.
     pub fn new() -> Self

@@ -109,20 +109,32 @@ pub fn head_at(s: &[u8], names: u32, at: usize) -> Option<Head>
 }
 
 // left: the levels of records that remain, this one's included. At 0 a record that is well formed itself is too deep.
+// A power's part and a product's right half are a turn of the loop: a `Result` that each level hands on would be copied at each.
 fn end_at(s: &[u8], names: u32, at: Place, left: u32) -> Result<Place, Fault<Place>>
     requires { length s.now ≤ 4294967295 }
     ensures { result ≡ end_of (type_at left names s.now at.0) }
 {
-    let head = head_at(s, names, at.0 as usize).ok_or(Fault::Malformed(at))?;
-    if left == 0 {
-        return Err(Fault::Beyond(at));
-    }
-    match head {
-        Head::Atomic(_, e) => Ok(Place(e as u32)),
-        Head::Power(e) => end_at(s, names, Place(e as u32), left - 1),
-        Head::Product(e) => {
-            let middle = end_at(s, names, Place(e as u32), left - 1)?;
-            end_at(s, names, middle, left - 1)
+    let mut at = at;
+    let mut left = left;
+    loop {
+        if left == 0 {
+            return match head_at(s, names, at.0 as usize) {
+                Some(_) => Err(Fault::Beyond(at)),
+                None => Err(Fault::Malformed(at)),
+            };
+        }
+        left -= 1;
+        let Some(head) = head_at(s, names, at.0 as usize) else {
+            return Err(Fault::Malformed(at));
+        };
+        match head {
+            Head::Atomic(_, e) => return Ok(Place(e as u32)),
+            Head::Power(e) => {
+                at = Place(e as u32);
+            }
+            Head::Product(e) => {
+                at = end_at(s, names, Place(e as u32), left)?;
+            }
         }
     }
 }

@@ -12,7 +12,9 @@ use Rattle.heads.specs.declared.ExprHead.TheVariants.{Free, Bound, Literal, Atom
 use Rattle.heads.specs.declared.PredHead.{PredHead}
 use Rattle.heads.specs.declared.PredHead.TheVariants.{Constant, Variable, Relational, Connective, Junction, Negation, Quantification, Simple, Multiple, Application}
 use Rattle.types.specs.Record.{reach}
-use Rattle.heads.specs.Heads.{expr_head, pred_head}
+use Rattle.heads.specs.declared.Root.{Root}
+use Rattle.heads.specs.declared.Root.TheVariants.{Expression, Predicate, Becomes, BecomesIn, BecomesSuch}
+use Rattle.heads.specs.Heads.{expr_head, pred_head, root_head}
 use Rattle.machine.specs.State.{State}
 use Rattle.operators.specs.declared.Script.{Script}
 use Rattle.operators.specs.declared.Script.TheVariants as Sc
@@ -25,7 +27,7 @@ use Rattle.machine.specs.Types.{skip_of, free_of, bound_identifier_of, meets_of,
 use Rattle.operators.specs.Operators.{check_atomic_of, check_binary_of, check_unary_of, check_quantified_of, check_relational_of, check_associative_of}
 use Rattle.machine.specs.Scripts.{parts_of, play_of}
 use Rattle.walker.specs.Walk.{meet_of, next_of, one_by, two_by, child_by, children_by, all_by, quant_by, pred_quant_by, ascribed_by, typed_by, body_by, pred_body_by, extension_plan, multiple_plan, application_plan, halts, onto, entered_by, expr_by, pred_by, paid_by, owned_by, expr_of, pred_of}
-use Rattle.walker.specs.Root.{pair_by, product_by, products_of, belongs_of, becomes_in_of, share_by, shares_from, shares_of, such_that_of, becomes_such_of}
+use Rattle.walker.specs.Root.{pair_by, pairs_of, product_by, products_of, belongs_of, becomes_in_of, share_by, shares_from, shares_of, such_that_of, becomes_such_of, assigned_by, root_by, formula_of}
 use Rattle.types.specs.Limits.{max_depth}
 use Rattle.machine.specs.Still.{test-both, Halted, still_stopped, still_placed, still_gave, still_bound, still_paid, still_enter, still_skip, still_within, still_list, still_make, still_expect, still_leave, still_free, still_identifier, still_meets, still_ascription, still_declare, still_times, still_play}
 
@@ -269,5 +271,23 @@ module _ (s env : List ℕ) where
       ap (λ (a : Mach). such_that_of s env m.st.slots n p (declare_of s env n a)) (still_exprs_of max_depth s env n m h)
       ∙ ap (such_that_of s env m.st.slots n p) (still_declare s env n m h)
       ∙ still_such_that m.st.slots n p m h
+
+  still_assigned : (f : Mach → Mach) (e : Place) (m : Mach) → Halted m → f m ≡ m → assigned_by f e m ≡ m
+  unfolding then
+  still_assigned f e m h g = ap (λ (v : State). f (with_st (placed_of e.0 v) m)) (still_paid m.st h) ∙ ap (λ (v : State). f (with_st v m)) (still_placed e.0 m.st h) ∙ g
+
+  still_root : (r : Option Root) (m : Mach) → Halted m → root_by s env r m ≡ m
+  unfolding root_by
+  still_root None m h = still_halts m h
+  still_root (Some Expression) m h = still_expr levels s env m h
+  still_root (Some Predicate) m h = still_pred levels s env m h
+  still_root (Some (Becomes n e)) m h = still_assigned (pairs_of s env n) e m h (still_pairs_of max_depth s env n m h)
+  still_root (Some (BecomesIn n e)) m h = still_assigned (becomes_in_of s env n) e m h (still_becomes_in n m h)
+  still_root (Some (BecomesSuch n e)) m h = still_assigned (becomes_such_of s env n m.st.at.0) e m h (still_becomes_such n m.st.at.0 m h)
+
+  -- a whole formula
+  pub still_formula : (m : Mach) → Halted m → formula_of s env m ≡ m
+  unfolding formula_of then
+  still_formula m h = still_root (root_head (reach s) m.st.at) m h
 
 pub ruleset still = (still_ascription, still_meet, still_expr, still_pred, still_one_of, still_two_of, still_children_of, still_preds_of, still_exprs_of, still_pairs_of, still_products_of, still_belongs, still_becomes_in, still_shares, still_such_that, still_becomes_such)

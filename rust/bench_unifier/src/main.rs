@@ -1,6 +1,7 @@
 //! `cargo run --offline --profile measure -p bench_unifier`: a table of times and ratios.
 //! `.. -p bench_unifier -- agree N`: N arenas from a fixed seed, some damaged, four comparisons each; both must agree in every word.
-//! `.. -p bench_unifier -- stack NAME DEPTH BYTES`: one deep recursion (unify, occurs, solved, circle) in a thread of that stack.
+//! `.. -p bench_unifier -- stack NAME DEPTH BYTES`: one deep type (unify, occurs, solved, circle) in a thread of that stack, a tower of powers;
+//! with `halves` as a further word, products nested to the left, which are the ones that recurse.
 
 #[cfg(no_archive)]
 fn main() {
@@ -23,7 +24,10 @@ fn main() {
             let counted = runs::agree(words.get(1).and_then(|n| n.parse().ok()).unwrap_or(200_000));
             println!("agreed, by number: {counted:?}");
         }
-        Some("stack") => runs::deep(&words[1], words[2].parse().unwrap(), words[3].parse().unwrap()),
+        Some("stack") => {
+            let halves = words.get(4).is_some_and(|word| word == "halves");
+            runs::deep(&words[1], words[2].parse().unwrap(), words[3].parse().unwrap(), halves)
+        }
         Some(other) => panic!("no run is called {other}"),
     }
 }

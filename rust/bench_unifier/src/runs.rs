@@ -132,9 +132,10 @@ pub fn agree(arenas: u32) -> BTreeMap<u32, u64> {
     counted
 }
 
-/// A recursion of a given depth in a thread with a stack of a given size.
-pub fn deep(name: &str, depth: u32, bytes: usize) {
+/// A type of a given depth, by powers or by products' left halves, in a thread with a stack of a given size.
+pub fn deep(name: &str, depth: u32, bytes: usize, halves: bool) {
     let name = name.to_string();
+    let level = move |part: u32| if halves { [0x44, part, 1] } else { [0x43, part, 0] };
     let run = move || {
         let mut left = u64::from(u32::MAX);
         let mut words: Vec<u32> = vec![0x4E, 0, 0, 0x41, 0, 0];
@@ -142,17 +143,17 @@ pub fn deep(name: &str, depth: u32, bytes: usize) {
             "unify" => {
                 words[0] = 0x41;
                 for i in 0..2 * depth {
-                    words.extend([0x44, i, 1]);
+                    words.extend(level(i));
                 }
                 proved::unify(&mut words, &mut left, 2 * depth + 2, 2 * depth, 2 * depth + 1)
             }
             "circle" => {
                 left = u64::from(depth);
-                proved::solved(&[0x44, 0, 0], &mut left, 1, 0)
+                proved::solved(&if halves { [0x44, 0, 0] } else { [0x43, 0, 0] }, &mut left, 1, 0)
             }
             _ => {
                 for i in 1..=depth {
-                    words.extend([0x44, i, 1]);
+                    words.extend(level(i));
                 }
                 if name == "occurs" {
                     proved::unify(&mut words, &mut left, depth + 2, 0, depth + 1)

@@ -17,7 +17,7 @@ abbrev pub decreases-read_preds : goal.decreases-read_preds
 decreases-read_preds l = l.left * 2 + 1
 
 abbrev pub invariant-read_exprs-loop : goal.invariant-read_exprs-loop
-invariant-read_exprs-loop l = (forget (exprs_at l.left l.self.names (reach l.self.s.now) (l.n - l.counter) l.cur) ≡ forget (exprs_at l.left l.self.names (reach l.self.s.now) l.n l.initial.cur)) × (l.counter ≤ l.n)
+invariant-read_exprs-loop l = (forget (exprs_at l.left l.self.names (reach l.self.s.now) (l.n - l.counter) l.st) ≡ forget (exprs_at l.left l.self.names (reach l.self.s.now) l.n l.initial.st)) × (l.counter ≤ l.n)
 
 abbrev pub invariant-read_preds-loop : goal.invariant-read_preds-loop
-invariant-read_preds-loop l = (forget (preds_at l.left l.self.names (reach l.self.s.now) (l.n - l.counter) l.cur) ≡ forget (preds_at l.left l.self.names (reach l.self.s.now) l.n l.initial.cur)) × (l.counter ≤ l.n)
+invariant-read_preds-loop l = (forget (preds_at l.left l.self.names (reach l.self.s.now) (l.n - l.counter) l.st) ≡ forget (preds_at l.left l.self.names (reach l.self.s.now) l.n l.initial.st)) × (l.counter ≤ l.n)

@@ -5,4 +5,4 @@ use Rattle.formula.specs.Parse.{decls_at}
 use Rattle.formula.proofs.Reader.read_decls.Given as goal
 
 abbrev pub invariant-loop : goal.invariant-loop
-invariant-loop l = (forget (decls_at l.self.names (reach l.self.s.now) l.left (l.n - l.counter) l.cur) ≡ forget (decls_at l.self.names (reach l.self.s.now) l.left l.n l.initial.cur)) × (l.counter ≤ l.n)
+invariant-loop l = (forget (decls_at l.self.names (reach l.self.s.now) l.left (l.n - l.counter) l.st) ≡ forget (decls_at l.self.names (reach l.self.s.now) l.left l.n l.initial.st)) × (l.counter ≤ l.n)

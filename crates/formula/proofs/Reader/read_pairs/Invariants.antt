@@ -5,4 +5,4 @@ use Rattle.formula.specs.Parse.{pairs_at}
 use Rattle.formula.proofs.Reader.read_pairs.Given as goal
 
 abbrev pub invariant-loop : goal.invariant-loop
-invariant-loop l = (forget (pairs_at l.left l.self.names (reach l.self.s.now) (l.n - l.counter) l.cur) ≡ forget (pairs_at l.left l.self.names (reach l.self.s.now) l.n l.initial.cur)) × (l.counter ≤ l.n)
+invariant-loop l = (forget (pairs_at l.left l.self.names (reach l.self.s.now) (l.n - l.counter) l.st) ≡ forget (pairs_at l.left l.self.names (reach l.self.s.now) l.n l.initial.st)) × (l.counter ≤ l.n)

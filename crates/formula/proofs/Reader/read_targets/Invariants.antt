@@ -5,4 +5,4 @@ use Rattle.formula.specs.Parse.{targets_at}
 use Rattle.formula.proofs.Reader.read_targets.Given as goal
 
 abbrev pub invariant-loop : goal.invariant-loop
-invariant-loop l = (forget (targets_at l.self.names (reach l.self.s.now) (l.n - l.counter) l.cur) ≡ forget (targets_at l.self.names (reach l.self.s.now) l.n l.initial.cur)) × (l.counter ≤ l.n)
+invariant-loop l = (forget (targets_at l.self.names (reach l.self.s.now) (l.n - l.counter) l.st) ≡ forget (targets_at l.self.names (reach l.self.s.now) l.n l.initial.st)) × (l.counter ≤ l.n)
